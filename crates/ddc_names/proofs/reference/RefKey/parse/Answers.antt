@@ -1,0 +1,12 @@
+use Rattle.std.proofs.Common.{sym, ap, ◌∙◌}
+use Rattle.ddc_names.specs.Texts.{digits_fault}
+use Rattle.ddc_names.specs.Laws.{digits_fault-refused, key_of-decoded}
+use Rattle.ddc_names.proofs.reference.RefKey.parse.Goals as goal
+
+pub unreachable-requires : goal.unreachable-requires
+unreachable-requires c =
+    digits_fault-refused c.args.text.now _ (sym c.from_hex.ensures ∙ c.in-Err.is)
+    (ap digits_fault (sym c.as_bytes.ensures.value) ∙ sym c.find_fault.ensures ∙ c.in_default.is)
+
+pub returns : goal.returns
+returns c = sym (key_of-decoded c.args.text.now _ (sym c.from_hex.ensures ∙ c.in-Ok.is))
