@@ -5,8 +5,7 @@ use Rattle.std.specs.Result.{result_ok}
 use Rattle.httparse.specs.Grammar.{RequestHead}
 use Rattle.httparse.specs.Spans.{name_and_value}
 use Rattle.ddc_names.specs.declared.hash.IoHash.{IoHash}
-use Rattle.ddc_names.specs.Names.{name_of}
-use Rattle.ddc_names.specs.Hashes.{hash_of}
+use Rattle.ddc_names.specs.Names.{name_of, hash_of}
 use Rattle.ddc_protocol.specs.declared.form.Form.{Form}
 use Rattle.ddc_protocol.specs.declared.form.Form.TheVariants.{Put, Get}
 use Rattle.ddc_protocol.specs.Fields.{same_text, values_of, number}

@@ -2,7 +2,7 @@
 use Rattle.std.specs.Prelude.{ℕ, Bool, true, false, List, [], ◌++◌, length, Option, Some, None, unwrap_or, codes, decimal}
 use Rattle.http.specs.StatusCode.{reason_phrase}
 use Rattle.ddc_names.specs.declared.hash.IoHash.{IoHash}
-use Rattle.ddc_names.specs.Hashes.{hash_text}
+use Rattle.ddc_names.specs.Names.{hash_text}
 
 -- `HTTP/1.1`, the status with its phrase of RFC 9110, and the type of the body
 unfoldable pub opening_text : ℕ → List ℕ → List ℕ → List ℕ
