@@ -1,5 +1,5 @@
 // The fields of a request head.
-ghost use Rattle.std.specs.Prelude.{◌≡◌, ◌≤◌, ℕ, List, length, map, All, codes};
+ghost use Rattle.std.specs.Prelude.{◌≡◌, ◌≤◌, ℕ, List, ◌∷◌, length, map, All, codes};
 ghost use Rattle.httparse.specs.Spans.{IsHeaderWithin, header_bytes};
 ghost use Rattle.ddc_protocol.specs.Fields.{same_name, same_text, values_of, number};
 ghost use Rattle.ddc_protocol.specs.Form.{is_empty, is_without_body, is_of_bytes, put_length, most_bytes, within_limit};
@@ -24,6 +24,16 @@ fn is_named(name: &[u8], wanted: &[u8]) -> bool
     name.eq_ignore_ascii_case(wanted)
 }
 
+fn one_more<'a>(value: &'a [u8], others: Values<'a>) -> Values<'a>
+    ensures { (values : List (List ℕ)) → AreValues values others.entry → AreValues (value.now ∷ values) result }
+{
+    match others {
+        Values::Absent => Values::Once(value),
+        Values::Once(_) => Values::Repeated(value),
+        Values::Repeated(_) => Values::Repeated(value),
+    }
+}
+
 fn values_of<'a>(buf: &'a [u8], headers: &[HeaderSpan], name: &[u8]) -> Values<'a>
     requires { All (IsHeaderWithin (length buf.now)) headers.now }
     ensures { AreValues (values_of name.now (map (header_bytes buf.now) headers.now)) result }
@@ -33,10 +43,7 @@ fn values_of<'a>(buf: &'a [u8], headers: &[HeaderSpan], name: &[u8]) -> Values<'
         [first, rest @ ..] => {
             let others = values_of(buf, rest, name);
             if is_named(first.name.of(buf), name) {
-                match others {
-                    Values::Absent => Values::Once(first.value.of(buf)),
-                    _ => Values::Repeated(first.value.of(buf)),
-                }
+                one_more(first.value.of(buf), others)
             } else {
                 others
             }

@@ -1,9 +1,10 @@
 // What a request head asks for.
 ghost use Rattle.std.specs.Prelude.{◌≡◌, ◌≤◌, ℕ, List, length, map, All, codes};
+ghost use Rattle.std.specs.List.{position};
 ghost use Rattle.std.specs.Result.{result_ok};
 ghost use Rattle.httparse.specs.Spans.{IsHeaderWithin, header_bytes};
 ghost use Rattle.ddc_names.specs.Names.{name_of, hash_of};
-ghost use Rattle.ddc_protocol.specs.Form.{is_slash, space_and_hash, blob_named, form_at, form};
+ghost use Rattle.ddc_protocol.specs.Form.{is_slash, both, space_and_hash, blob_named, form_at, form};
 
 use crate::fields::{is_absent, is_of_bytes, is_without_body, put_length};
 use ddc_names::{IoHash, Namespace};
@@ -29,13 +30,28 @@ fn hash_of(text: &[u8]) -> Option<IoHash>
     }
 }
 
+fn slash_of(text: &[u8]) -> Option<usize>
+    ensures { result ≡ position is_slash text.now }
+{
+    text.iter().position(|byte| *byte == b'/')
+}
+
+fn both(space: Option<Namespace>, hash: Option<IoHash>) -> Option<(Namespace, IoHash)>
+    ensures { result ≡ both space hash }
+{
+    match (space, hash) {
+        (Some(space), Some(hash)) => Some((space, hash)),
+        _ => None,
+    }
+}
+
 fn space_and_hash(text: &[u8]) -> Option<(Namespace, IoHash)>
     ensures { result ≡ space_and_hash text.now }
 {
-    let slash = text.iter().position(|byte| *byte == b'/')?;
-    let space = space_of(&text[..slash])?;
-    let hash = hash_of(&text[slash + 1..])?;
-    Some((space, hash))
+    match slash_of(text) {
+        Some(slash) => both(space_of(&text[..slash]), hash_of(&text[slash + 1..])),
+        None => None,
+    }
 }
 
 fn blob_named(target: &[u8]) -> Option<(Namespace, IoHash)>

@@ -3,3 +3,10 @@
 
 mod fields;
 mod form;
+mod head;
+mod reader;
+mod request;
+mod stream;
+
+pub use request::{Ask, HttpFault, Request};
+pub use stream::RequestReader;

@@ -1,6 +1,6 @@
 -- What a request head asks for.
-use Rattle.std.specs.Prelude.{ℕ, Bool, true, false, ◌&&◌, List, [], ◌∷◌, drop, map, Option, Some, None, codes, if◌then◌else◌, ◌==◌, nat_eq, nat_le}
-use Rattle.std.specs.List.{starts_with, before_first, after_first}
+use Rattle.std.specs.Prelude.{ℕ, ◌+◌, Bool, true, false, ◌&&◌, List, [], ◌∷◌, take, drop, map, Option, Some, None, codes, if◌then◌else◌, ◌==◌, nat_eq, nat_le}
+use Rattle.std.specs.List.{starts_with, position}
 use Rattle.std.specs.Result.{result_ok}
 use Rattle.httparse.specs.Grammar.{RequestHead}
 use Rattle.httparse.specs.Spans.{name_and_value}
@@ -23,9 +23,13 @@ both None b = None
 abbrev pub is_slash : ℕ → Bool
 is_slash byte = byte == 47
 
+abbrev pub parts_at : List ℕ → Option ℕ → Option (List ℕ × IoHash)
+parts_at text (Some slash) = both (result_ok (name_of (take slash text))) (hash_of (drop (slash + 1) text))
+parts_at text None = None
+
 -- a namespace, a slash, and the 40 hexadecimal digits of a hash
 abbrev pub space_and_hash : List ℕ → Option (List ℕ × IoHash)
-space_and_hash text = both (result_ok (name_of (before_first is_slash text))) (hash_of (after_first is_slash text))
+space_and_hash text = parts_at text (position is_slash text)
 
 -- the namespace and the hash of `/api/v1/blobs/{namespace}/{hash}`
 abbrev pub blob_named : List ℕ → Option (List ℕ × IoHash)
