@@ -46,15 +46,28 @@ fn a_name_is_refused_at_its_least_bad_place(rt: HostRuntime) {
         ("5.Ue_ddc-", None),
     ];
     for (text, at) in cases {
-        let space = Namespace::parse(text);
-        let bucket = Bucket::parse(text);
-        assert_eq!(rt; space.err().map(|fault| fault.at), at, "at {text}");
-        assert_eq!(rt; bucket.err().map(|fault| fault.at), at, "at {text}");
-        if let (Ok(space), Ok(bucket)) = (space, bucket) {
-            assert_eq!(rt; space.as_str(), text);
-            assert_eq!(rt; bucket.as_str(), text);
-        }
+        assert_eq!(rt;
+            Namespace::parse(text).err().map(|fault| fault.at),
+            at,
+            "at {text}"
+        );
+        assert_eq!(rt;
+            Bucket::parse(text).err().map(|fault| fault.at),
+            at,
+            "at {text}"
+        );
     }
+}
+
+#[test]
+fn a_name_gives_its_text_back(rt: HostRuntime) -> Result<(), Fail> {
+    for text in ["5", "5.Ue_ddc-"] {
+        let space = Namespace::parse(text)?;
+        let bucket = Bucket::parse(text)?;
+        assert_eq!(rt; space.as_str(), text);
+        assert_eq!(rt; bucket.as_str(), text);
+    }
+    Ok(())
 }
 
 #[test]
