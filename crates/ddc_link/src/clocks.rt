@@ -26,7 +26,7 @@ impl Clock for FixedClock {
 }
 
 /// The clock of the system.
-#[derive(Clone, Copy, Debug)]
+#[derive(Debug, Drop)]
 pub struct SystemClock<R> {
     rt: R,
 }

@@ -15,6 +15,8 @@ use ddc_names::Failed;
 mod clocks;
 mod memory;
 mod standard;
+#[cfg(test)]
+mod tests;
 
 pub use clocks::{FixedClock, SystemClock};
 pub use memory::{MemSink, MemSource};
