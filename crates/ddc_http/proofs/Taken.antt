@@ -1,5 +1,5 @@
 -- What was taken of the bytes ahead.
-use Rattle.std.proofs.Common.{◌≡◌, ◌⊎◌, ℕ, ◌≤◌, ◌<◌, ◌+◌, ◌-◌, List, [], ◌++◌, length, take, drop, refl, sym, ap, ◌∙◌, subst, append_assoc, append-nil, arith, Option, Some, None, IfSome, length-append, take-append-drop, inl, inr}
+use Rattle.std.proofs.Common.{◌≡◌, ◌⊎◌, ℕ, ◌≤◌, ◌<◌, ◌+◌, ◌-◌, List, [], ◌++◌, length, take, drop, refl, sym, ap, ◌∙◌, subst, append_assoc, append-nil, arith, Option, Some, None, Result, Ok, Err, IfSome, length-append, take-append-drop, inl, inr}
 use Rattle.std.proofs.Math.Seq.{take-add}
 use Rattle.std.proofs.lemmas.List.{length-take-le, length-drop, take_at, drop_at}
 use Rattle.std.specs.Prelude.{Vec}
@@ -9,8 +9,13 @@ use Rattle.httparse.specs.Grammar.{RequestHead, print_request}
 use Rattle.httparse.proofs.GrammarLemmas.{request_unique}
 use Rattle.ddc_protocol.specs.declared.form.Form.{Form}
 use Rattle.ddc_protocol.specs.Form.{form_of}
-use Rattle.ddc_protocol.specs.Requests.{IsHead, HasNoHead, body_length, Item, item_of, Spells, LacksBody, IsCut, HasNoItem}
-use Rattle.ddc_http.specs.Reader.{HeadAt, BodyAt, HasItem, LosesPart, Takes, place_behind}
+use Rattle.ddc_protocol.specs.Requests.{IsHead, HasNoHead, body_length, Item, mismatch, item_of, Spells, LacksBody, IsCut, HasNoItem}
+use Rattle.ddc_names.specs.declared.hash.IoHash.{IoHash}
+use Rattle.ddc_protocol.specs.declared.form.Form.TheVariants.{Put}
+use Rattle.ddc_http.specs.declared.request.Request.{Request}
+use Rattle.ddc_http.specs.declared.request.HttpFault.{HttpFault}
+use Rattle.ddc_http.specs.declared.request.HttpFault.TheVariants.{Unread, Cut, HashMismatch, ReadFailed, NoMemory}
+use Rattle.ddc_http.specs.Reader.{HeadAt, BodyAt, BodyAs, HasItem, StoresAs, Answers, asked, place_behind}
 
 -- the head of a whole request, and what follows it in the bytes
 pub behind_head : (bytes text rest : List ℕ) (item : Item) (s : Spells text item) → bytes ≡ text ++ rest → bytes ≡ print_request s.head ++ (s.body ++ rest)
@@ -118,3 +123,62 @@ pub taken-more : (before left after : Option (List ℕ)) (held front body piece 
 taken-more before left after held front body piece e c d =
     let P : List ℕ → Type 0 = λ b. Consumes before (prepend_known held after) b in
     subst P (append_assoc front body piece) (consumes-more before left after held (front ++ body) piece e c d)
+
+-- what is taken of bytes that stayed
+pub kept-consumes : (before mid after : Option (List ℕ)) (part : List ℕ) → Keeps before mid → Consumes mid after part → Consumes before after part
+kept-consumes None mid after part k c = tt
+kept-consumes (Some x) None after part k c = absurd k
+kept-consumes (Some x) (Some y) None part k c = absurd c
+kept-consumes (Some x) (Some y) (Some z) part k c = sym k ∙ c
+
+kept-known : (before mid : Option (List ℕ)) (P : List ℕ → Type 0) → Keeps before mid → IfSome mid P → IfSome before P
+kept-known None mid P k h = tt
+kept-known (Some x) None P k h = absurd k
+kept-known (Some x) (Some y) P k h = subst P k h
+
+-- where the bytes have a whole request, its body is among them
+pub whole_held : (bytes : List ℕ) (len size : ℕ) → BodyAt bytes len size → HasItem bytes → len + size ≤ length bytes
+whole_held bytes len size h (item, text, rest, s, e) =
+    let at = h.head_at in
+    let same = request_unique bytes at.head s.head (drop len bytes) (s.body ++ rest) (at.is_head.valid, at.spelled) (s.is_head.valid, behind_head bytes text rest item s e) in
+    let asks : Some h.form ≡ Some s.form = at.asks ∙ ap form_of same.0 ∙ s.asks in
+    let forms : h.form ≡ s.form = cc in
+    let long : length (drop len bytes) ≡ length s.body + length rest = ap length same.1 ∙ length-append s.body rest in
+    let whole : length s.body ≡ body_length h.form = s.whole ∙ ap body_length (sym forms) in
+    let states = h.states in
+    let within = at.within in
+    let cut = length-drop len bytes in
+    omega arith
+
+-- the head, and a body of the length that it states
+pub spells : (bytes body : List ℕ) (len : ℕ) (form : Form) (item : Item) → HeadAt bytes len (Some form) → length body ≡ body_length form → item_of form body ≡ item → Spells (take len bytes ++ body) item
+spells bytes body len form item h whole same = record {
+  head = h.head;
+  form = form;
+  body = body;
+  is_head = h.is_head;
+  asks = sym h.asks;
+  whole = whole;
+  spelled = ap (λ l. l ++ body) (ap (take len) h.spelled ∙ take_at (print_request h.head) (drop len bytes) len (sym h.long));
+  same = sym same;
+}
+
+-- a body that was not read whole
+pub body_fails : (before mid after left : Option (List ℕ)) (held : List ℕ) (len size from : ℕ) (fault : HttpFault) → Keeps before mid → BodyAs mid after left held len size (Err fault) → Answers before after left from from (Err fault)
+body_fails before mid after left held len size from Unread k h = absurd h
+body_fails before mid after left held len size from Cut k h = (kept-known before mid IsCut k h, refl)
+body_fails before mid after left held len size from (HashMismatch named found) k h = absurd h
+body_fails before mid after left held len size from ReadFailed k (part, lost, none) = ((part, kept-consumes before mid left part k lost, none), refl)
+body_fails before mid after left held len size from NoMemory k h = tt
+
+-- a body that was read whole
+pub body_stored : (before after left : Option (List ℕ)) (held space body : List ℕ) (named : IoHash) (len size from to : ℕ) (result : Result (Option Request) HttpFault)
+    → HeadAt held len (Some (Put space named size)) → Consumes before after (take len held ++ body) → length body ≡ size → to ≡ place_behind from (take len held ++ body)
+    → StoresAs space named body result → Answers before after left from to result
+body_stored before after left held space body named len size from to (Ok (Some request)) h c long place s = (take len held ++ body, spells held body len (Put space named size) (asked request) h long (ap (λ n. item_of (Put space named n) body) (sym long) ∙ s), c, place)
+body_stored before after left held space body named len size from to (Ok None) h c long place s = absurd s
+body_stored before after left held space body named len size from to (Err Unread) h c long place s = absurd s
+body_stored before after left held space body named len size from to (Err Cut) h c long place s = absurd s
+body_stored before after left held space body named len size from to (Err (HashMismatch expected found)) h c long place s = (take len held ++ body, spells held body len (Put space named size) (mismatch expected found) h long (ap (λ n. item_of (Put space named n) body) (sym long) ∙ s), c, place)
+body_stored before after left held space body named len size from to (Err ReadFailed) h c long place s = absurd s
+body_stored before after left held space body named len size from to (Err NoMemory) h c long place s = absurd s

@@ -5,8 +5,10 @@ use Rattle.std.specs.Io.KnownBytes.{Consumes, Keeps, IsAtEnd}
 use Rattle.httparse.specs.Grammar.{RequestHead, IsRequestHead, print_request, HasNoRequest}
 use Rattle.httparse.specs.Spans.{RequestOverflows}
 use Rattle.ddc_protocol.specs.declared.form.Form.{Form}
+use Rattle.ddc_names.specs.declared.hash.IoHash.{IoHash}
+use Rattle.ddc_protocol.specs.declared.form.Form.TheVariants.{Put}
 use Rattle.ddc_protocol.specs.Form.{form_of}
-use Rattle.ddc_protocol.specs.Requests.{IsHead, HasNoHead, NeverHasHead, body_length, Item, put, get, mismatch, Spells, IsUnread, IsCut, HasNoItem}
+use Rattle.ddc_protocol.specs.Requests.{IsHead, HasNoHead, NeverHasHead, body_length, Item, item_of, put, get, mismatch, Spells, IsUnread, IsCut, HasNoItem}
 use Rattle.ddc_http.specs.declared.head.Found.{Found}
 use Rattle.ddc_http.specs.declared.head.Found.TheVariants.{More, Never, Head}
 use Rattle.ddc_http.specs.declared.request.Ask.{Ask}
@@ -104,6 +106,16 @@ BodyAs before after left held len size (Err ReadFailed) = LosesPart before left
 BodyAs before after left held len size (Err NoMemory) = ⊤
 BodyAs before after left held len size (Err Unread) = ⊥
 BodyAs before after left held len size (Err (HashMismatch named found)) = ⊥
+
+-- a body is a request where it has the hash named
+abbrev pub StoresAs : List ℕ → IoHash → List ℕ → Result (Option Request) HttpFault → Type 0
+StoresAs space named body (Ok (Some request)) = item_of (Put space named (length body)) body ≡ asked request
+StoresAs space named body (Ok None) = ⊥
+StoresAs space named body (Err (HashMismatch expected found)) = item_of (Put space named (length body)) body ≡ mismatch expected found
+StoresAs space named body (Err Unread) = ⊥
+StoresAs space named body (Err Cut) = ⊥
+StoresAs space named body (Err ReadFailed) = ⊥
+StoresAs space named body (Err NoMemory) = ⊥
 
 -- what a call answered, by the bytes ahead before and after it, what the source has left, and the places
 abbrev pub Answers : Option (List ℕ) → Option (List ℕ) → Option (List ℕ) → ℕ → ℕ → Result (Option Request) HttpFault → Type 0

@@ -4,11 +4,12 @@ ghost use Rattle.std.specs.Io.KnownBytes.{Keeps, Consumes, prepend_known};
 ghost use Rattle.ddc_link.specs.Causes.{Rose};
 ghost use Rattle.ddc_protocol.specs.Form.{most_bytes};
 ghost use Rattle.ddc_protocol.specs.Requests.{HasNoItem};
-ghost use Rattle.ddc_http.specs.Reader.{FillsAs, HeadsAs, BodyAs, BodyAt, HasItem};
+ghost use Rattle.ddc_http.specs.Reader.{FillsAs, HeadsAs, BodyAs, BodyAt, HasItem, StoresAs, Answers};
 
 use crate::head::{Found, find_head};
-use crate::request::HttpFault;
+use crate::request::{Ask, HttpFault, Request};
 use ddc_link::Source;
+use ddc_names::{IoHash, Namespace};
 use ddc_protocol::Form;
 use io_hash::{Intake, Whole};
 use std::alloc::Global;
@@ -37,7 +38,7 @@ fn fill<S: Source>(source: &mut S, held: &mut Vec<u8>) -> Result<bool, HttpFault
 }
 
 // Holds pieces of the source until a head stands at the front, or none can.
-pub fn read_head<S: Source>(source: &mut S, held: &mut Vec<u8>) -> Result<Option<(usize, Form)>, HttpFault>
+fn read_head<S: Source>(source: &mut S, held: &mut Vec<u8>) -> Result<Option<(usize, Form)>, HttpFault>
     ensures gives { HeadsAs (prepend_known held.old.items (S.left source.old)) (prepend_known held.new.items (S.left source.new)) (S.left source.new) held.new.items result }
     ensures ready { HasItem held.old.items → (source.new ≡ source.old) × (held.new ≡ held.old) }
     ensures later { S.faults source.old ≤ S.faults source.new }
@@ -63,7 +64,7 @@ pub fn read_head<S: Source>(source: &mut S, held: &mut Vec<u8>) -> Result<Option
 }
 
 // Takes away the bytes at the front.
-pub fn drop_front(held: &mut Vec<u8>, count: usize)
+fn drop_front(held: &mut Vec<u8>, count: usize)
     requires { count ≤ vec_len held.old }
     ensures { held.new.items ≡ drop count held.old.items }
 {
@@ -73,7 +74,7 @@ pub fn drop_front(held: &mut Vec<u8>, count: usize)
 }
 
 // Takes the head away, and the body behind it as it comes.
-pub fn take_body<S: Source>(
+fn take_body<S: Source>(
     alloc: Global,
     source: &mut S,
     held: &mut Vec<u8>,
@@ -109,4 +110,51 @@ pub fn take_body<S: Source>(
         wanted -= count;
     }
     Ok(intake.finish())
+}
+
+// The request whose body has come, where that has the hash named.
+fn stored(space: Namespace, named: IoHash, blob: Whole) -> Result<Option<Request>, HttpFault>
+    ensures { StoresAs space named blob result }
+{
+    let found = blob.hash();
+    if found == named {
+        let ask = Ask::PutBlob { space, blob };
+        Ok(Some(Request { ask }))
+    } else {
+        Err(HttpFault::HashMismatch { named, found })
+    }
+}
+
+/// Takes one request from what is held and from the source.
+pub fn next_request<S: Source>(
+    alloc: Global,
+    source: &mut S,
+    held: &mut Vec<u8>,
+    place: &mut u64,
+) -> Result<Option<Request>, HttpFault>
+    ensures gives { Answers (prepend_known held.old.items (S.left source.old)) (prepend_known held.new.items (S.left source.new)) (S.left source.new) place.old place.new result }
+    ensures ready { HasItem held.old.items → source.new ≡ source.old }
+    ensures later { S.faults source.old ≤ S.faults source.new }
+    ensures cause { result ≡ Err HttpFault.ReadFailed → Rose (S.faults source.old) (S.faults source.new) }
+{
+    let (len, form) = match read_head(source, held) {
+        Err(fault) => return Err(fault),
+        Ok(None) => return Ok(None),
+        Ok(Some(found)) => found,
+    };
+    match form {
+        Form::Get(space, hash) => {
+            drop_front(held, len);
+            *place = place.saturating_add(len as u64);
+            let ask = Ask::GetBlob { space, hash };
+            Ok(Some(Request { ask }))
+        }
+        Form::Put(space, named, size) => match take_body(alloc, source, held, len, size as usize) {
+            Err(fault) => Err(fault),
+            Ok(blob) => {
+                *place = place.saturating_add(len as u64).saturating_add(size);
+                stored(space, named, blob)
+            }
+        },
+    }
 }
