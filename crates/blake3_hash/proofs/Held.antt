@@ -1,5 +1,5 @@
 -- How a message that is taken in piece by piece grows.
-use Rattle.std.proofs.Common.{◌≡◌, ℕ, zero, suc, ◌+◌, ◌-◌, ◌*◌, ◌/◌, ◌≤◌, List, [], ◌∷◌, ◌++◌, length, take, drop, refl, sym, ap, ◌∙◌, arith, length-append}
+use Rattle.std.proofs.Common.{◌≡◌, ℕ, zero, suc, ◌+◌, ◌-◌, ◌*◌, ◌/◌, ◌<◌, ◌≤◌, List, [], ◌∷◌, ◌++◌, length, take, drop, refl, sym, ap, ◌∙◌, arith, length-append}
 use Rattle.std.proofs.lemmas.List.{take-append-le, drop-append-le, take_all, drop_all, length-drop, drop-drop, append_assoc, take-append-drop, take_at, append-nil}
 use Rattle.std.proofs.lemmas.Slice.{take-put_mid}
 use Rattle.tree_hash.specs.TreeHash.{chunk_value, value}
@@ -60,9 +60,9 @@ leaf_behind count k m d x len ex =
     rw n (leaves_next (count + k) (m ++ d) x (ex ∙ ap (λ (r : List ℕ). chunk_value (take 1024 r) (count + k) 0) (sym at)))
 
 -- the tail of d behind m is in the buffer
-pub IsHeld_tail : (levels : List (List ℕ)) (count k n j u : ℕ) (buffer m d ys : List ℕ) → n ≡ count + k → 1024 * count ≡ length m → 1 ≤ length d → k ≡ (length d - 1) / 1024
+pub IsHeld_tail : (levels : List (List ℕ)) (count k n j u : ℕ) (buffer m d ys : List ℕ) → n ≡ count + k → 1024 * count ≡ length m → 1024 * k < length d
     → Holds levels n (leaves (count + k) (m ++ d) 0) → ys ≡ drop (1024 * k) d → u ≡ length d - 1024 * k → IsHeld levels n (ys ++ post_of 0 j buffer) u (m ++ d)
-IsHeld_tail levels count k n j u buffer m d ys en len some ek h e eu =
+IsHeld_tail levels count k n j u buffer m d ys en len below h e eu =
     let l : length (drop (1024 * k) d) ≡ length d - 1024 * k = length-drop (1024 * k) d in
     record {
       len = omega (arith, length-append m d);
@@ -73,8 +73,8 @@ IsHeld_tail levels count k n j u buffer m d ys en len some ek h e eu =
       spine = rw (ap (λ (i : ℕ). leaves i (m ++ d) 0) en) h;
     }
 
-pub filled : (used j : ℕ) (buffer ys d : List ℕ) → length buffer ≡ 1024 → 1024 ≤ used + j → ys ≡ d → put_mid used j buffer ys ≡ take used buffer ++ d
-filled used j buffer ys d len h e =
+pub filled : (used j : ℕ) (buffer ys d : List ℕ) → length buffer ≤ used + j → ys ≡ d → put_mid used j buffer ys ≡ take used buffer ++ d
+filled used j buffer ys d h e =
     let rest : post_of used j buffer ≡ [] = drop_all j (drop used buffer) (omega (arith, length-drop used buffer)) in
     rw (rest, append-nil, e) refl
 

@@ -33,5 +33,5 @@ returns-clause-held c m len h =
     let done : c.loop-k.k ≡ whole = omega arith in
     let count : c.loop-k.spine.count ≡ n + whole = rw done at c.loop-k.invariant.count in
     let held : Holds c.loop-k.spine.levels c.loop-k.spine.count (leaves (n + whole) (m ++ b) 0) = rw done at (c.loop-k.invariant.holds m len h) in
-    IsHeld_tail _ n whole _ (length (take (length b - 1024 * whole) (drop (1024 * whole) b))) _ c.args.buffer.now m b _ count len c.requires.some refl held
+    IsHeld_tail _ n whole _ (length (take (length b - 1024 * whole) (drop (1024 * whole) b))) _ c.args.buffer.now m b _ count len (omega (arith, c.requires.some)) held
     (c.copy_from_slice.ensures.after ∙ take_rest b (1024 * whole)) (ap length (take_rest b (1024 * whole)) ∙ length-drop (1024 * whole) b)

@@ -18,8 +18,7 @@ returns-clause-fed c m fed =
     let n : ℕ = c.self.inside.spine.count in
     let room : ℕ = 1024 - used in
     let part : length (take room d) ≡ room = length-take-le room d (omega arith) in
-    let long : length c.self.inside.buffer ≡ 1024 = omega arith in
-    let full = filled used (1024 - used) c.self.inside.buffer c.copy_from_slice-2.new.self (take room d) long (omega arith) c.copy_from_slice-2.ensures.after in
+    let full = filled used (1024 - used) c.self.inside.buffer c.copy_from_slice-2.new.self (take room d) (omega arith) c.copy_from_slice-2.ensures.after in
     let grown : leaves (n + 1) (m ++ take room d) 0 ≡ leaves n m 0 ++ c.flagged_chunk-value.result ∷ [] =
     leaf_filled n c.self.inside.buffer used m (take room d) _ c.flagged_chunk-value.result f.len f.rest (omega arith) full (rw (← c.count.ensures.value) c.flagged_chunk-value.ensures) in
     let held : Holds c.push.new.self.levels c.push.new.self.count (leaves c.push.new.self.count (m ++ take room d) 0) =
