@@ -5,8 +5,15 @@ mod fields;
 mod form;
 mod head;
 mod reader;
+mod reply;
+#[cfg(test)]
+mod reply_tests;
 mod request;
 mod stream;
 
+pub use reply::{
+    ErrorCode, Head, Kind, WriteFault, error_body, identifier_body, mismatch_body, status_phrases,
+    write_head,
+};
 pub use request::{Ask, HttpFault, Request};
 pub use stream::RequestReader;
