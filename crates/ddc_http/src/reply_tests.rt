@@ -3,7 +3,7 @@ use crate::{
     write_head,
 };
 use ddc_link::MemSink;
-use ddc_names::IoHash;
+use ddc_names::{IoHash, Rows};
 use std::test::Fail;
 
 // The first 20 bytes of the BLAKE3 hash of nothing.
@@ -23,7 +23,7 @@ fn json_head(rt: HostRuntime) -> Result<(), Fail> {
         length: 57,
         close: false,
     };
-    let mut sink = MemSink::new(rt.alloc(), Vec::new(rt.alloc()));
+    let mut sink = MemSink::new(rt.alloc(), Rows::new(rt.alloc()));
     let written = write_head(rt.alloc(), &mut sink, &head);
     assert_eq!(rt; written, Ok(()));
     assert_eq!(rt;
@@ -42,7 +42,7 @@ fn octets_head(rt: HostRuntime) -> Result<(), Fail> {
         length: 67_108_864,
         close: false,
     };
-    let mut sink = MemSink::new(rt.alloc(), Vec::new(rt.alloc()));
+    let mut sink = MemSink::new(rt.alloc(), Rows::new(rt.alloc()));
     let written = write_head(rt.alloc(), &mut sink, &head);
     assert_eq!(rt; written, Ok(()));
     assert_eq!(rt;
@@ -61,7 +61,7 @@ fn closing_head(rt: HostRuntime) -> Result<(), Fail> {
         length: 0,
         close: true,
     };
-    let mut sink = MemSink::new(rt.alloc(), Vec::new(rt.alloc()));
+    let mut sink = MemSink::new(rt.alloc(), Rows::new(rt.alloc()));
     let written = write_head(rt.alloc(), &mut sink, &head);
     assert_eq!(rt; written, Ok(()));
     assert_eq!(rt;
@@ -80,7 +80,7 @@ fn failing_sink(rt: HostRuntime) -> Result<(), Fail> {
         length: 21,
         close: false,
     };
-    let mut sink = MemSink::new(rt.alloc(), vec![in rt.alloc(); 0]?);
+    let mut sink = MemSink::new(rt.alloc(), Rows::of_vec(vec![in rt.alloc(); 0]?));
     let written = write_head(rt.alloc(), &mut sink, &head);
     assert_eq!(rt; written, Err(WriteFault::Failed));
     assert_eq!(rt; sink.written(), b"".as_slice());

@@ -1,0 +1,19 @@
+-- What writing one text behind another leaves.
+use Rattle.std.proofs.Common.{◌≡◌, ◌≤◌, arith, ℕ, List, ◌++◌, sym, ap, ◌∙◌, append_assoc, Option}
+use Rattle.std.specs.Io.KnownBytes.{Appends}
+use Rattle.std.proofs.KnownBytes.{Appends-trans}
+use Rattle.ddc_link.specs.Causes.{Rose}
+use Rattle.ddc_link.specs.Writes.{AppendsFront}
+
+-- a front of a text is one of a longer text
+pub front_more : (old new : Option (List ℕ)) (text more : List ℕ) → AppendsFront old new text → AppendsFront old new (text ++ more)
+front_more old new text more (front, back, split, wrote) = (front, back ++ more, ap (λ l. l ++ more) split ∙ append_assoc front back more, wrote)
+
+-- a whole text, and a front of another
+pub front_behind : (a b c : Option (List ℕ)) (xs ys : List ℕ) → Appends a b xs → AppendsFront b c ys → AppendsFront a c (xs ++ ys)
+front_behind a b c xs ys whole (front, back, split, wrote) =
+    (xs ++ front, back, ap (λ l. xs ++ l) split ∙ sym (append_assoc xs front back), Appends-trans a b c xs front whole wrote)
+
+-- a count that rose from a later one rose from an earlier one
+pub rose_later : (a b c : ℕ) → a ≤ b → Rose b c → Rose a c
+rose_later a b c le rose = omega arith

@@ -1,0 +1,6 @@
+//! The commands.
+#![tactic(auto)]
+
+mod plain;
+mod reply;
+mod session;

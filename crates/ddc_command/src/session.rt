@@ -1,0 +1,86 @@
+// One stream of requests.
+ghost use Rattle.std.specs.Prelude.{◌≡◌, ◌≤◌, ◌<◌, ◌+◌, ℕ, List, false, [], IfOk};
+ghost use Rattle.std.specs.Io.KnownBytes.{prepend_known};
+ghost use Rattle.ddc_link.specs.Causes.{Rose};
+ghost use Rattle.ddc_http.specs.Stream.{source_of, held_of, place_of, has_ended};
+ghost use Rattle.ddc_command.specs.Session.{TurnAs, Serves, turn_of};
+
+use crate::plain::Store;
+use crate::reply::{answer, answer_mismatch, answer_unread};
+use ddc_http::{HttpFault, RequestReader, WriteFault};
+use ddc_link::{Sink, Source};
+use std::alloc::Global;
+
+/// The most requests of one stream.
+const MOST_ITEMS: u32 = 10_000;
+
+/// How a session ended.
+#[derive(Clone, Copy, Debug, PartialEq, Eq)]
+pub enum Served {
+    /// The input ended between two requests.
+    Closed,
+    /// The request behind so many bytes is of no form that is answered.
+    Unread(u64),
+    /// The input ended inside the request behind so many bytes.
+    Cut(u64),
+    /// The most requests of a stream, of so many bytes, were answered.
+    Spent(u64),
+    /// The source failed.
+    ReadFailed,
+    /// The sink failed.
+    WriteFailed,
+    /// There was no memory.
+    NoMemory,
+}
+
+/// What came of one turn.
+#[derive(Clone, Copy, Debug, PartialEq, Eq)]
+pub enum Turn {
+    Answered,
+    Ended(Served),
+}
+
+fn turned(written: Result<(), WriteFault>) -> Turn
+    ensures { result ≡ turn_of written }
+{
+    match written {
+        Ok(()) => Turn::Answered,
+        Err(WriteFault::Failed) => Turn::Ended(Served::WriteFailed),
+        Err(WriteFault::NoMemory) => Turn::Ended(Served::NoMemory),
+    }
+}
+
+// Reads a request and answers it.
+fn take_turn<S: Source, W: Sink>(
+    alloc: Global,
+    reader: &mut RequestReader<'_, S>,
+    store: &mut Store,
+    close: bool,
+    sink: &mut W,
+) -> Turn
+    requires { has_ended reader.old ≡ false }
+    ensures same_reference { reader.new.source.ghost_name ≡ reader.old.source.ghost_name }
+    ensures gives { TurnAs (prepend_known (held_of reader.old) (S.left (source_of reader.old))) (prepend_known (held_of reader.new) (S.left (source_of reader.new)))
+        (S.left (source_of reader.new)) (place_of reader.old) (place_of reader.new) close (W.written sink.old) (W.written sink.new) store.old store.new result }
+    ensures goes_on { result ≡ Turn.Answered → has_ended reader.new ≡ false }
+    ensures later_source { S.faults (source_of reader.old) ≤ S.faults (source_of reader.new) }
+    ensures later_sink { W.faults sink.old ≤ W.faults sink.new }
+    ensures read { result ≡ Turn.Ended Served.ReadFailed → Rose (S.faults (source_of reader.old)) (S.faults (source_of reader.new)) }
+    ensures write { result ≡ Turn.Ended Served.WriteFailed → Rose (W.faults sink.old) (W.faults sink.new) }
+{
+    match reader.next() {
+        Ok(Some(request)) => turned(answer(alloc, store, request, close, sink)),
+        Ok(None) => Turn::Ended(Served::Closed),
+        Err(HttpFault::HashMismatch { named, found }) => {
+            turned(answer_mismatch(alloc, named, found, close, sink))
+        }
+        Err(HttpFault::Unread) => match answer_unread(alloc, sink) {
+            Ok(()) => Turn::Ended(Served::Unread(reader.place())),
+            Err(WriteFault::Failed) => Turn::Ended(Served::WriteFailed),
+            Err(WriteFault::NoMemory) => Turn::Ended(Served::NoMemory),
+        },
+        Err(HttpFault::Cut) => Turn::Ended(Served::Cut(reader.place())),
+        Err(HttpFault::ReadFailed) => Turn::Ended(Served::ReadFailed),
+        Err(HttpFault::NoMemory) => Turn::Ended(Served::NoMemory),
+    }
+}
