@@ -2,3 +2,4 @@ pub mod Tables
 pub mod Replies
 pub mod Writes
 pub mod Session
+pub mod Top

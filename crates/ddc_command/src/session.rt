@@ -84,3 +84,43 @@ fn take_turn<S: Source, W: Sink>(
         Err(HttpFault::NoMemory) => Turn::Ended(Served::NoMemory),
     }
 }
+
+// Answers the requests of a reader that stands at the front of its source.
+fn serve_requests<S: Source, W: Sink>(
+    alloc: Global,
+    reader: &mut RequestReader<'_, S>,
+    store: &mut Store,
+    sink: &mut W,
+) -> Served
+    requires goes_on { has_ended reader.old ≡ false }
+    requires bare { held_of reader.old ≡ [] }
+    requires place { place_of reader.old ≡ 0 }
+    ensures same_reference { reader.new.source.ghost_name ≡ reader.old.source.ghost_name }
+    ensures gives { Serves (S.left (source_of reader.old)) (S.left (source_of reader.new)) (W.written sink.old) (W.written sink.new) store.old result }
+    ensures read { result ≡ Served.ReadFailed → Rose (S.faults (source_of reader.old)) (S.faults (source_of reader.new)) }
+    ensures write { result ≡ Served.WriteFailed → Rose (W.faults sink.old) (W.faults sink.new) }
+{
+    'requests: for count in 0..MOST_ITEMS {
+        match take_turn(alloc, reader, store, count + 1 == MOST_ITEMS, sink) {
+            Turn::Answered => {}
+            Turn::Ended(served) => return served,
+        }
+    }
+    Served::Spent(reader.place())
+}
+
+/// Answers the requests of one stream, from a store on.
+pub fn run_session<S: Source, W: Sink>(alloc: Global, source: &mut S, store: &mut Store, sink: &mut W) -> Served
+    ensures gives { Serves (S.left source.old) (S.left source.new) (W.written sink.old) (W.written sink.new) store.old result }
+    ensures read { result ≡ Served.ReadFailed → Rose (S.faults source.old) (S.faults source.new) }
+    ensures write { result ≡ Served.WriteFailed → Rose (W.faults sink.old) (W.faults sink.new) }
+{
+    match RequestReader::new(alloc, source) {
+        Err(_) => Served::NoMemory,
+        Ok(mut reader) => {
+            let served = serve_requests(alloc, &mut reader, store, sink);
+            let _source = reader.finish();
+            served
+        }
+    }
+}
