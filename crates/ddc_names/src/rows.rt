@@ -1,6 +1,6 @@
 //! A list that contracts see as the list of its items.
 
-ghost use Rattle.std.specs.Prelude.{◌≡◌, List, [], ◌∷◌, ◌++◌, length, OnOk, OnErr, option_to_list};
+ghost use Rattle.std.specs.Prelude.{◌≡◌, List, [], ◌∷◌, ◌++◌, length, OnOk, OnErr, IfNone, option_to_list};
 
 use std::alloc::{AllocError, AllocFailed, Global};
 use std::marker::Model;
@@ -77,7 +77,8 @@ impl<T> Rows<T> {
 
     /// Takes the last item, if there is one.
     pub fn pop(&mut self) -> Option<T>
-        ensures { self.old ≡ self.new ++ option_to_list result }
+        ensures last { self.old ≡ self.new ++ option_to_list result }
+        ensures empty { IfNone result (self.old ≡ []) }
     {
         self.items.pop()
     }
