@@ -1,2 +1,1 @@
-pub mod Io
 pub mod Intakes

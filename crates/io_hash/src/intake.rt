@@ -1,6 +1,6 @@
 // Bytes that arrive in pieces.
-ghost use Rattle.std.specs.Prelude.{◌≡◌, [], ◌++◌, OnOk, OnErr, IfErr};
-ghost use Rattle.io_hash.specs.Intakes.{HasRoom, Refuses};
+ghost use Rattle.std.specs.Prelude.{◌≡◌, List, [], OnOk, IfErr};
+ghost use Rattle.io_hash.specs.Intakes.{Fits, Refuses, Taken, with_piece};
 
 use crate::whole::Whole;
 use blake3_lanes::WideHasher;
@@ -16,8 +16,8 @@ pub enum IntakeFault {
     NoMemory,
 }
 
-/// Bytes that arrive in pieces, hashed as they come. A clause sees the limit of their number and the bytes taken so
-/// far, as a pair.
+/// Bytes that arrive in pieces, hashed as they come. A clause sees the limit of their number, and the bytes taken so
+/// far.
 #[derive(Drop)]
 pub struct Intake {
     limit: u64,
@@ -26,12 +26,13 @@ pub struct Intake {
 }
 
 impl Model for Intake {
-    ghost use Rattle.std.specs.Prelude.{ℕ, ◌≤◌, List, length};
+    ghost use Rattle.std.specs.Prelude.{◌≤◌, length};
     ghost use Rattle.blake3_lanes.specs.WideFed.{IsWideFed};
+    ghost use Rattle.io_hash.specs.Intakes.{Taken};
 
-    ghost Value = { ℕ × List ℕ };
+    ghost Value = { Taken };
 
-    ghost view = { λ a. (a.limit, a.bytes.items) };
+    ghost view = { λ a. record { limit = a.limit; bytes = a.bytes.items } };
 
     ghost invariant = { λ a. (length a.bytes.items ≤ a.limit) × IsWideFed a.hasher a.bytes.items };
 }
@@ -39,7 +40,7 @@ impl Model for Intake {
 impl Intake {
     /// An intake of at most `limit` bytes, which holds none and no memory yet.
     pub fn new(alloc: Global, limit: u64) -> Intake
-        ensures { result ≡ (limit, []) }
+        ensures { result ≡ record { limit = limit; bytes = [] } }
     {
         Intake {
             limit,
@@ -55,10 +56,10 @@ impl Intake {
     /// `TooLarge` exactly where the bytes would be more than the limit, and `NoMemory` where there is none. The intake is
     /// then as before.
     pub fn take(&mut self, bytes: &[u8]) -> Result<(), IntakeFault>
-        ensures ok { OnOk result (self.new ≡ (self.old.0, self.old.1 ++ bytes.now)) }
-        ensures room { OnOk result (HasRoom self.old bytes.now) }
+        ensures fits { OnOk result (Fits self.old bytes.now) }
+        ensures taken { OnOk result (self.new ≡ with_piece self.old bytes.now) }
         ensures refused { IfErr result (λ fault. Refuses self.old bytes.now fault) }
-        ensures err { OnErr result (self.new ≡ self.old) }
+        ensures unchanged { IfErr result (λ _. self.new ≡ self.old) }
     {
         if bytes.len() as u64 > self.limit - self.bytes.len() as u64 {
             return Err(IntakeFault::TooLarge { limit: self.limit });
@@ -72,7 +73,7 @@ impl Intake {
 
     /// The bytes taken, with their hash. They are moved and not copied.
     pub fn finish(self) -> Whole
-        ensures { result ≡ self.1 }
+        ensures { result ≡ self.bytes }
     {
         Whole::of_fed(self.bytes, &self.hasher)
     }

@@ -1,6 +1,6 @@
 // Bytes with their hash.
 ghost use Rattle.std.specs.Prelude.{◌≡◌, ℕ, List};
-ghost use Rattle.io_hash.specs.Io.{io_hash_of_bytes};
+ghost use Rattle.tree_hash.specs.TreeHash.{io};
 ghost use Rattle.blake3_lanes.specs.WideFed.{IsWideFed};
 
 use blake3_lanes::WideHasher;
@@ -9,7 +9,7 @@ use std::marker::Model;
 
 // The hash of what was fed, cut to its first 20 bytes.
 pub(crate) fn cut_hash(hasher: &WideHasher) -> IoHash
-    ensures { (m : List ℕ) → IsWideFed hasher.now m → result ≡ io_hash_of_bytes m }
+    ensures { (m : List ℕ) → IsWideFed hasher.now m → result.0 ≡ io m }
 {
     let hash = hasher.finish();
     let mut cut = [0; 20];
@@ -19,7 +19,7 @@ pub(crate) fn cut_hash(hasher: &WideHasher) -> IoHash
 
 /// The hash that names a blob of these bytes.
 pub fn io_hash_of(bytes: &[u8]) -> IoHash
-    ensures { result ≡ io_hash_of_bytes bytes.now }
+    ensures { result.0 ≡ io bytes.now }
 {
     let mut hasher = WideHasher::new();
     hasher.update(bytes);
@@ -35,13 +35,13 @@ pub struct Whole {
 
 impl Model for Whole {
     ghost use Rattle.std.specs.Prelude.{◌≡◌, ℕ, List};
-    ghost use Rattle.io_hash.specs.Io.{io_hash_of_bytes};
+    ghost use Rattle.tree_hash.specs.TreeHash.{io};
 
     ghost Value = { List ℕ };
 
     ghost view = { λ w. w.bytes.items };
 
-    ghost invariant = { λ w. w.hash ≡ io_hash_of_bytes w.bytes.items };
+    ghost invariant = { λ w. w.hash.0 ≡ io w.bytes.items };
 }
 
 impl Whole {
@@ -63,7 +63,7 @@ impl Whole {
 
     /// The hash that names the bytes.
     pub fn hash(&self) -> IoHash
-        ensures { result ≡ io_hash_of_bytes self.now }
+        ensures { result.0 ≡ io self.now }
     {
         self.hash
     }
