@@ -1,5 +1,5 @@
 -- Words as bytes, and bytes as words.
-use Rattle.std.proofs.Common.{◌≡◌, ℕ, ◌+◌, ◌-◌, ◌*◌, ◌/◌, ◌%◌, ◌^◌, ◌<◌, ◌≤◌, List, [], ◌∷◌, ◌++◌, length, slice_index, slice_index_or, take, drop, bit_or, w8, w32, Fits, arith, refl, ap, ◌∙◌, sym}
+use Rattle.std.proofs.Common.{◌≡◌, ℕ, ◌+◌, ◌-◌, ◌*◌, ◌/◌, ◌%◌, ◌^◌, ◌<◌, ◌≤◌, List, [], ◌∷◌, ◌++◌, length, slice_index, slice_index_or, take, drop, bit_or, w8, w32, Fits, arith, refl, ap, ◌∙◌}
 use Rattle.std.specs.Int.{rotate_right}
 use Rattle.std.specs.Int.Bits.{or_shifted_r}
 use Rattle.std.specs.Simd.Lanes.{Each1, chunk, digits_l, number_l, pick_l}

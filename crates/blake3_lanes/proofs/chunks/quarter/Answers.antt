@@ -1,4 +1,4 @@
-use Rattle.std.proofs.Common.{ℕ, ◌+◌, ◌*◌, arith, ap, ◌∙◌}
+use Rattle.std.proofs.Common.{ℕ, arith, ap, ◌∙◌}
 use Rattle.tree_hash.specs.TreeHash.{word_at}
 use Rattle.blake3_lanes.proofs.LaneLemmas.{below_four}
 use Rattle.blake3_lanes.proofs.chunks.quarter.Goals as goal
