@@ -21,7 +21,7 @@ rows_leaves (suc k) (r ∷ rows) b n len h =
     rw (drop-drop (1024 * j) 1024 b, ← e, ← g) (h (suc j) (omega arith))) in
     rw (first, others) refl
 
-leaves_add : (i k : ℕ) (b : List ℕ) (n : ℕ) → leaves (i + k) b n ≡ leaves i b n ++ leaves k (drop (1024 * i) b) (n + i)
+pub leaves_add : (i k : ℕ) (b : List ℕ) (n : ℕ) → leaves (i + k) b n ≡ leaves i b n ++ leaves k (drop (1024 * i) b) (n + i)
 unfolding leaves
 leaves_add zero k b n =
     let z : 0 + k ≡ k = omega arith in
@@ -34,7 +34,7 @@ leaves_add (suc i) k b n =
     (ap (λ (r : List (List ℕ)). chunk_value (take 1024 b) n 0 ∷ r) (leaves_add i k (drop 1024 b) (n + 1)))
 
 -- k leaves lie in the first k chunks
-leaves_within : (k : ℕ) (b : List ℕ) (n : ℕ) → leaves k (take (1024 * k) b) n ≡ leaves k b n
+pub leaves_within : (k : ℕ) (b : List ℕ) (n : ℕ) → leaves k (take (1024 * k) b) n ≡ leaves k b n
 leaves_within k b n = sym (take-leaves k k b n (omega arith)) ∙ take_all k (leaves k b n) (omega (arith, length-leaves k b n))
 
 -- four values and four more

@@ -1,3 +1,4 @@
 pub mod LaneLemmas
 pub mod Groups
 pub mod Buffered
+pub mod WordBytes

@@ -5,6 +5,7 @@ ghost use Rattle.blake3_hash.specs.Spine.{leaves};
 ghost use Rattle.blake3_lanes.specs.Lanes.{lane};
 
 use crate::kernel::{compress, rows, start_values};
+use crate::vectors::{load, transpose};
 use std::simd::prelude::*;
 
 #[inline(always)]
@@ -47,53 +48,36 @@ fn high_words(first: u64) -> u32x4
     ])
 }
 
+// The four words from byte `at` on of each of four chunks.
 #[inline(always)]
-fn load_le(input: &[u8], i: usize) -> u32
-    requires { i + 4 ≤ length input.now }
-    ensures { result ≡ word_at input.now i }
-{
-    u32::from_le_bytes([input[i], input[i + 1], input[i + 2], input[i + 3]])
-}
-
-// The words at byte `at` of each of four chunks.
-#[inline(always)]
-fn column(input: &[u8], at: usize) -> u32x4
+fn quarter(input: &[u8], at: usize) -> [u32x4; 4]
     requires len { length input.now ≡ 4096 }
-    requires at { at + 4 ≤ 1024 }
-    ensures { (j : ℕ) → j < 4 → slice_index result j ≡ word_at input.now (1024 * j + at) }
+    requires at { at + 16 ≤ 1024 }
+    ensures { (j : ℕ) → j < 4 → (i : ℕ) → i < 4
+        → slice_index (slice_index_or result i []) j ≡ word_at input.now (1024 * j + (at + 4 * i)) }
 {
-    u32x4::from_array([
-        load_le(input, at),
-        load_le(input, at + 1024),
-        load_le(input, at + 2048),
-        load_le(input, at + 3072),
-    ])
+    transpose(
+        load(input, at),
+        load(input, at + 1024),
+        load(input, at + 2048),
+        load(input, at + 3072),
+    )
 }
 
-// The block at byte `at` of each of four chunks.
+// The block from byte `at` on of each of four chunks.
 #[inline(always)]
 fn columns(input: &[u8], at: usize) -> [u32x4; 16]
     requires len { length input.now ≡ 4096 }
     requires at { at + 64 ≤ 1024 }
     ensures { (j : ℕ) → j < 4 → lane j result ≡ block_words (take 64 (drop (1024 * j + at) input.now)) }
 {
+    let a = quarter(input, at);
+    let b = quarter(input, at + 16);
+    let c = quarter(input, at + 32);
+    let d = quarter(input, at + 48);
     [
-        column(input, at),
-        column(input, at + 4),
-        column(input, at + 8),
-        column(input, at + 12),
-        column(input, at + 16),
-        column(input, at + 20),
-        column(input, at + 24),
-        column(input, at + 28),
-        column(input, at + 32),
-        column(input, at + 36),
-        column(input, at + 40),
-        column(input, at + 44),
-        column(input, at + 48),
-        column(input, at + 52),
-        column(input, at + 56),
-        column(input, at + 60),
+        a[0], a[1], a[2], a[3], b[0], b[1], b[2], b[3], c[0], c[1], c[2], c[3], d[0], d[1], d[2],
+        d[3],
     ]
 }
 

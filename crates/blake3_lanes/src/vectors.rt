@@ -1,7 +1,7 @@
 // Words of four chunks side by side.
-ghost use Rattle.std.specs.Prelude.{◌≡◌, ℕ, ◌<◌, List, slice_index, bit_xor};
+ghost use Rattle.std.specs.Prelude.{◌≡◌, ℕ, ◌+◌, ◌*◌, ◌<◌, ◌≤◌, List, [], length, slice_index, slice_index_or, bit_xor};
 ghost use Rattle.std.specs.Int.{w32, rotate_right};
-ghost use Rattle.tree_hash.specs.TreeHash.{add32};
+ghost use Rattle.tree_hash.specs.TreeHash.{add32, word_at};
 
 use std::simd::prelude::*;
 
@@ -25,8 +25,44 @@ pub(crate) fn xor_rotate(a: u32x4, b: u32x4, k: u32) -> u32x4
     requires high { k < 32 }
     ensures { (j : ℕ) → j < 4 → slice_index result j ≡ rotate_right w32 (bit_xor (slice_index a j) (slice_index b j)) k }
 {
+    if k == 8 {
+        return rotate_by_byte(a ^ b);
+    }
     let x = a ^ b;
     (x >> u32x4::splat(k)) | (x << u32x4::splat(32 - k))
+}
+
+// A rotation to the right by 8, as a shuffle of bytes: from two shifts the compiler makes two shuffles here.
+#[inline(always)]
+fn rotate_by_byte(x: u32x4) -> u32x4
+    ensures { (j : ℕ) → j < 4 → slice_index result j ≡ rotate_right w32 (slice_index x j) 8 }
+{
+    let bytes = x.to_le_bytes();
+    u32x4::from_le_bytes(bytes.swizzle([1, 2, 3, 0, 5, 6, 7, 4, 9, 10, 11, 8, 13, 14, 15, 12]))
+}
+
+// Sixteen bytes as four words, low byte first.
+#[inline(always)]
+pub(crate) fn load(input: &[u8], at: usize) -> u32x4
+    requires { at + 16 ≤ length input.now }
+    ensures { (i : ℕ) → i < 4 → slice_index result i ≡ word_at input.now (at + 4 * i) }
+{
+    u32x4::from_le_bytes(u8x16::from_slice(&input[at..at + 16]))
+}
+
+// Vector i of the result has word i of each vector.
+#[inline(always)]
+pub(crate) fn transpose(a: u32x4, b: u32x4, c: u32x4, d: u32x4) -> [u32x4; 4]
+    ensures first { (i : ℕ) → i < 4 → slice_index (slice_index_or result i []) 0 ≡ slice_index a i }
+    ensures second { (i : ℕ) → i < 4 → slice_index (slice_index_or result i []) 1 ≡ slice_index b i }
+    ensures third { (i : ℕ) → i < 4 → slice_index (slice_index_or result i []) 2 ≡ slice_index c i }
+    ensures fourth { (i : ℕ) → i < 4 → slice_index (slice_index_or result i []) 3 ≡ slice_index d i }
+{
+    let (ac_low, ac_high) = a.interleave(c);
+    let (bd_low, bd_high) = b.interleave(d);
+    let (first, second) = ac_low.interleave(bd_low);
+    let (third, fourth) = ac_high.interleave(bd_high);
+    [first, second, third, fourth]
 }
 
 #[inline(always)]

@@ -1,5 +1,5 @@
 // A message taken in piece by piece, eight chunks at a time.
-ghost use Rattle.std.specs.Prelude.{◌≡◌, ℕ, ◌+◌, ◌-◌, ◌*◌, ◌/◌, ◌^◌, ◌<◌, ◌≤◌, ◌++◌, List, [], length};
+ghost use Rattle.std.specs.Prelude.{◌≡◌, ℕ, ◌+◌, ◌-◌, ◌*◌, ◌/◌, ◌%◌, ◌^◌, ◌<◌, ◌≤◌, ◌++◌, List, [], length, take};
 ghost use Rattle.tree_hash.specs.TreeHash.{blake3};
 ghost use Rattle.blake3_hash.specs.Spine.{IsPushed, leaves};
 ghost use Rattle.blake3_hash.specs.Fed.{IsHeld};
@@ -22,14 +22,14 @@ pub struct WideHasher {
 }
 
 impl Model for WideHasher {
-    ghost use Rattle.std.specs.Prelude.{◌≡◌, ◌+◌, ◌*◌, ◌^◌, ◌<◌, ◌≤◌};
+    ghost use Rattle.std.specs.Prelude.{◌≡◌, ◌+◌, ◌*◌, ◌%◌, ◌^◌, ◌<◌, ◌≤◌};
     ghost use Rattle.blake3_lanes.specs.WideFed.{WideFed};
 
     ghost Value = { WideFed };
 
     ghost view = { λ h. record { spine = h.spine; buffer = h.buffer; used = h.used } };
 
-    ghost invariant = { λ h. (h.chunks ≡ h.spine.count) × (h.used ≤ 8192) × (1 ≤ h.spine.count → 1 ≤ h.used) × (1024 * h.spine.count + h.used < 2 ^ 64) };
+    ghost invariant = { λ h. (h.chunks ≡ h.spine.count) × (h.spine.count % 8 ≡ 0) × (h.used ≤ 8192) × (1 ≤ h.spine.count → 1 ≤ h.used) × (1024 * h.spine.count + h.used < 2 ^ 64) };
 }
 
 impl WideHasher {
@@ -78,10 +78,11 @@ impl WideHasher {
     {
         let mut spine = self.spine;
         let whole = self.used.saturating_sub(1) / 1024;
-        'others: for k in 0..whole {
-            let chunk = &self.buffer[1024 * k..1024 * k + 1024];
-            spine.push(&chunk_value(chunk, self.chunks + k as u64));
-        }
+        push_front(
+            &mut spine,
+            &front_values(&self.buffer, self.chunks, whole),
+            whole,
+        );
         spine.finish(&self.buffer[1024 * whole..self.used])
     }
 }
@@ -101,6 +102,34 @@ fn push_values(spine: &mut Spine, values: &[[u32; 8]; 8])
 {
     'each: for value in values {
         spine.push(value);
+    }
+}
+
+// The values of the first `whole` chunks of the buffer; what else it has is counted in where it is quicker.
+fn front_values(buffer: &[u8; 8192], number: u64, whole: usize) -> [[u32; 8]; 8]
+    requires whole { whole < 8 }
+    requires number { number + whole < 2 ^ 54 }
+    requires aligned { number % 8 ≡ 0 }
+    ensures { take whole result ≡ leaves whole buffer.now number }
+{
+    if whole >= 4 {
+        return chunks8(buffer, number);
+    }
+    let mut values = [[0; 8]; 8];
+    'plain: for k in 0..whole {
+        values[k] = chunk_value(&buffer[1024 * k..1024 * k + 1024], number + k as u64);
+    }
+    values
+}
+
+fn push_front(spine: &mut Spine, values: &[[u32; 8]; 8], whole: usize)
+    requires whole { whole < 8 }
+    requires room { spine.old.count + whole < 2 ^ 54 }
+    ensures count { spine.new.count ≡ spine.old.count + whole }
+    ensures pushed { (xs : List (List ℕ)) → IsPushed spine.old xs → IsPushed spine.new (xs ++ take whole values.now) }
+{
+    'front: for k in 0..whole {
+        spine.push(&values[k]);
     }
 }
 
