@@ -20,7 +20,7 @@ object_reads : (bs : List ℕ) (links : List LinkOf) → IsObject bs links → R
 object_reads bs links o =
     let whole : Spells (Whole (counted 1)) (bs ++ []) (links ++ []) = more {contents = counted 1} bs [] links [] refl o.field (none refl) in
     let r = spells_read whole 0 [] in
-    rw (append-nil, append-nil) at r
+    rw (append-nil bs, append-nil links) at r
 
 fault_reads : (bs : List ℕ) (at : ℕ) → starts_object bs ≡ true → FaultAt bs at → Reads (counted 1) bs 0 [] (Fault at)
 fault_reads bs at s f =
@@ -38,7 +38,7 @@ one_field (more {contents = c} f fs ls ms n a b) e =
     let full : is_full (fewer c).count ≡ true = rw e refl in
     let x = nothing_more b full in
     let field : Spells (Field None) f ls = rw e at a in
-    rw (x.0, x.1, append-nil, append-nil) field
+    rw (x.0, x.1, append-nil f, append-nil ls) field
 
 pub comes_object : (bs : List ℕ) (links : List LinkOf) → starts_object bs ≡ true → Comes (counted 1) bs 0 [] (Cut links) → IsObject bs links
 comes_object bs links s r = record { code = s; field = rw r.2 (one_field r.1 refl) }

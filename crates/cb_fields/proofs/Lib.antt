@@ -6,3 +6,7 @@ pub mod Carry
 pub mod Reading
 pub mod Unique
 pub mod Agree
+pub mod Shortest
+pub mod Written
+pub mod Told
+pub mod Laws

@@ -106,7 +106,7 @@ spells_read (more {contents = c} f fs ls ms e a b) = λ at links.
     let sum : (links ++ ls) ++ ms ≡ links ++ (ls ++ ms) = append_assoc links ls ms in
     go_on c f fs ls links at (Cut (links ++ (ls ++ ms))) (field_header c.type_byte (f ++ fs)) is r.0 (rw sum at rest))
 
-has_header : {type_byte : Option ℕ} {f : List ℕ} {ls : List LinkOf} → Spells (Field type_byte) f ls → (others : List ℕ) → HasHeader type_byte (f ++ others)
+pub has_header : {type_byte : Option ℕ} {f : List ℕ} {ls : List LinkOf} → Spells (Field type_byte) f ls → (others : List ℕ) → HasHeader type_byte (f ++ others)
 has_header (plain start p s a) others = rw append_assoc (plain_field start p others s a)
 has_header (container start front xs inner s o r) others =
     let cut : (start ++ (front ++ xs)) ++ others ≡ start ++ (front ++ (xs ++ others)) = simp append_assoc in

@@ -1,5 +1,5 @@
 -- The object that lists hashes that are needed.
-use Rattle.std.specs.Prelude.{ℕ, ◌+◌, ◌-◌, ◌/◌, List, [], ◌∷◌, ◌++◌, length, drop, if◌then◌else◌, nat_lt}
+use Rattle.std.specs.Prelude.{◌≡◌, ℕ, ◌+◌, ◌-◌, ◌/◌, List, [], ◌∷◌, ◌++◌, length, drop, if◌then◌else◌, nat_lt}
 use Rattle.std.specs.Int.{w64, to_be_bytes}
 use Rattle.ddc_names.specs.declared.hash.IoHash.{IoHash}
 
@@ -46,3 +46,8 @@ needs_field (h ∷ hs) = 0x85 ∷ 5 ∷ 0x6e ∷ 0x65 ∷ 0x65 ∷ 0x64 ∷ 0x73
 -- the object without a name of that field
 abbrev pub needs_object : List IoHash → List ℕ
 needs_object hs = 0x02 ∷ with_size (needs_field hs)
+
+-- each is a hash of 20 bytes
+abbrev pub AreHashes : List IoHash → Type 0
+AreHashes [] = Unit {0}
+AreHashes (h ∷ hs) = (length h.0 ≡ 20) × AreHashes hs
