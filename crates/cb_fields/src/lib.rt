@@ -10,6 +10,10 @@ mod form;
 mod header;
 mod links;
 mod needs;
+#[cfg(test)]
+mod plain;
+#[cfg(test)]
+mod tests;
 mod varuint;
 mod walk;
 
