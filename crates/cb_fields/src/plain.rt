@@ -107,9 +107,14 @@ fn is_payload(fuel: u32, code: u8, bytes: &[u8]) -> bool {
         return false;
     }
     match code {
-        0x02 => after_size(bytes).is_some_and(|inside| is_whole(fuel - 1, None, None, inside)),
-        0x03 => after_size(bytes).is_some_and(|inside| inside.is_empty()
-            || is_uniform(fuel - 1, None, inside)),
+        0x02 => match after_size(bytes) {
+            None => false,
+            Some(inside) => is_whole(fuel - 1, None, None, inside),
+        },
+        0x03 => match after_size(bytes) {
+            None => false,
+            Some(inside) => inside.is_empty() || is_uniform(fuel - 1, None, inside),
+        },
         0x04 => is_counted(fuel - 1, false, bytes),
         0x05 => is_counted(fuel - 1, true, bytes),
         0x06 | 0x07 | 0x1e | 0x1f => after_size(bytes).is_some(),

@@ -75,71 +75,73 @@ fn objects_have_their_links(rt: HostRuntime) -> Result<(), Fail> {
     Ok(())
 }
 
+// Bytes and the place of their first fault, as the rules list them.
+const PLACES: [(&[u8], Option<u64>); 48] = [
+    // the first field is no object
+    (b"", Some(0)),
+    (b"\x04\x01\x00", Some(0)),
+    (b"\x01", Some(0)),
+    (b"\x42\x00", Some(0)),
+    // its header doesn't fit
+    (b"\x02", Some(0)),
+    (b"\x02\x05\xaa\xbb\xcc", Some(0)),
+    (b"\x02\xff\x00\x00\x00\x00\x00\x00\x00", Some(0)),
+    (b"\x02\xff\xff\xff\xff\xff\xff\xff\xff\xff", Some(0)),
+    (b"\x82\x02a\x00", Some(0)),
+    (b"\x03\x01\x40", Some(0)),
+    (b"\x02\x00", None),
+    (b"\x03\x00", None),
+    (b"\x82\x01a\x00", None),
+    (b"\x02\xff\x00\x00\x00\x00\x00\x00\x00\x00", None),
+    // something follows it
+    (b"\x02\x00\x00", Some(2)),
+    (b"\x83\x01a\x00\x02\x00", Some(4)),
+    // a field's header: its type byte, its name, its number, its payload
+    (b"\x02\x02\x01\x00", Some(3)),
+    (b"\x02\x02\x01\x15", Some(3)),
+    (b"\x02\x02\x01\x41", Some(3)),
+    (b"\x02\x03\x01\x81\x01", Some(3)),
+    (b"\x02\x03\x01\x08\x80", Some(3)),
+    (b"\x02\x03\x01\x06\x01", Some(3)),
+    (b"\x02\x04\x01\x02\x02\x01", Some(3)),
+    (b"\x02\x0b\x84\x05needs\x01\x00", Some(0)),
+    (b"\x02\x09\x84\x05needs\x01\x00", None),
+    // a field of a uniform container begins at its name or payload
+    (b"\x02\x06\x03\x04\x06\x01a\x01", Some(7)),
+    (b"\x02\x06\x03\x04\x88\x01a\x80", Some(5)),
+    (b"\x02\x06\x05\x04\x02\x08\x07\x80", Some(7)),
+    // a container without its count or type byte, or with a refused one
+    (b"\x02\x02\x04\x00", Some(2)),
+    (b"\x02\x03\x04\x01\x80", Some(2)),
+    (b"\x02\x02\x05\x00", Some(2)),
+    (b"\x02\x03\x05\x01\x01", Some(2)),
+    (b"\x02\x04\x05\x02\x01\x20", Some(2)),
+    (b"\x02\x04\x05\x02\x00\x20", Some(2)),
+    (b"\x02\x03\x03\x01\x00", Some(2)),
+    (b"\x02\x02\x03\x00", None),
+    (b"\x02\x03\x05\x01\x00", None),
+    (b"\x02\x04\x05\x02\x00\x08", None),
+    // an array that ends before its count, and one with bytes left
+    (b"\x02\x04\x04\x02\x02\x01", Some(6)),
+    (b"\x02\x05\x05\x03\x02\x08\x07", Some(7)),
+    (b"\x02\x05\x04\x03\x01\x01\x01", Some(6)),
+    (b"\x02\x05\x05\x03\x00\x08\x07", Some(6)),
+    // fields without bytes: their count is never walked, and no byte follows their type byte
+    (
+        b"\x02\x0c\x05\x0a\xff\x80\x00\x00\x00\x00\x00\x00\x00\x01",
+        None,
+    ),
+    (b"\x02\x05\x05\x03\x02\x01\x01", Some(6)),
+    (b"\x02\x04\x03\x02\x0c\x0c", Some(5)),
+    (b"\x02\x05\x03\x03\x8d\x00\x00", None),
+    // what is inside a field comes before what follows it, and a header before its inside
+    (b"\x02\x06\x02\x02\x00\x01\x00\x00", Some(4)),
+    (b"\x02\x06\x04\x03\x02\x00\x06\x09", Some(5)),
+];
+
 #[test]
 fn faults_have_their_places(rt: HostRuntime) -> Result<(), Fail> {
-    let table: [(&[u8], Option<u64>); 48] = [
-        // the first field is no object
-        (b"", Some(0)),
-        (b"\x04\x01\x00", Some(0)),
-        (b"\x01", Some(0)),
-        (b"\x42\x00", Some(0)),
-        // its header doesn't fit
-        (b"\x02", Some(0)),
-        (b"\x02\x05\xaa\xbb\xcc", Some(0)),
-        (b"\x02\xff\x00\x00\x00\x00\x00\x00\x00", Some(0)),
-        (b"\x02\xff\xff\xff\xff\xff\xff\xff\xff\xff", Some(0)),
-        (b"\x82\x02a\x00", Some(0)),
-        (b"\x03\x01\x40", Some(0)),
-        (b"\x02\x00", None),
-        (b"\x03\x00", None),
-        (b"\x82\x01a\x00", None),
-        (b"\x02\xff\x00\x00\x00\x00\x00\x00\x00\x00", None),
-        // something follows it
-        (b"\x02\x00\x00", Some(2)),
-        (b"\x83\x01a\x00\x02\x00", Some(4)),
-        // a field's header: its type byte, its name, its number, its payload
-        (b"\x02\x02\x01\x00", Some(3)),
-        (b"\x02\x02\x01\x15", Some(3)),
-        (b"\x02\x02\x01\x41", Some(3)),
-        (b"\x02\x03\x01\x81\x01", Some(3)),
-        (b"\x02\x03\x01\x08\x80", Some(3)),
-        (b"\x02\x03\x01\x06\x01", Some(3)),
-        (b"\x02\x04\x01\x02\x02\x01", Some(3)),
-        (b"\x02\x0b\x84\x05needs\x01\x00", Some(0)),
-        (b"\x02\x09\x84\x05needs\x01\x00", None),
-        // a field of a uniform container begins at its name or payload
-        (b"\x02\x06\x03\x04\x06\x01a\x01", Some(7)),
-        (b"\x02\x06\x03\x04\x88\x01a\x80", Some(5)),
-        (b"\x02\x06\x05\x04\x02\x08\x07\x80", Some(7)),
-        // a container without its count or type byte, or with a refused one
-        (b"\x02\x02\x04\x00", Some(2)),
-        (b"\x02\x03\x04\x01\x80", Some(2)),
-        (b"\x02\x02\x05\x00", Some(2)),
-        (b"\x02\x03\x05\x01\x01", Some(2)),
-        (b"\x02\x04\x05\x02\x01\x20", Some(2)),
-        (b"\x02\x04\x05\x02\x00\x20", Some(2)),
-        (b"\x02\x03\x03\x01\x00", Some(2)),
-        (b"\x02\x02\x03\x00", None),
-        (b"\x02\x03\x05\x01\x00", None),
-        (b"\x02\x04\x05\x02\x00\x08", None),
-        // an array that ends before its count, and one with bytes left
-        (b"\x02\x04\x04\x02\x02\x01", Some(6)),
-        (b"\x02\x05\x05\x03\x02\x08\x07", Some(7)),
-        (b"\x02\x05\x04\x03\x01\x01\x01", Some(6)),
-        (b"\x02\x05\x05\x03\x00\x08\x07", Some(6)),
-        // fields without bytes: their count is never walked, and no byte follows their type byte
-        (
-            b"\x02\x0c\x05\x0a\xff\x80\x00\x00\x00\x00\x00\x00\x00\x01",
-            None,
-        ),
-        (b"\x02\x05\x05\x03\x02\x01\x01", Some(6)),
-        (b"\x02\x04\x03\x02\x0c\x0c", Some(5)),
-        (b"\x02\x05\x03\x03\x8d\x00\x00", None),
-        // what is inside a field comes before what follows it, and a header before its inside
-        (b"\x02\x06\x02\x02\x00\x01\x00\x00", Some(4)),
-        (b"\x02\x06\x04\x03\x02\x00\x06\x09", Some(5)),
-    ];
-    for (bytes, at) in table {
+    for (bytes, at) in PLACES {
         assert_eq!(rt; place(rt.alloc(), bytes)?, at, "of {bytes:?}");
     }
     Ok(())
