@@ -1,5 +1,5 @@
 -- Every list of bytes is an object or has a first fault, not both, and in one way.
-use Rattle.std.proofs.Common.{◌≡◌, ◌⊎◌, inl, inr, ℕ, zero, suc, ◌+◌, ◌-◌, ◌<◌, ◌≤◌, Bool, true, false, List, [], ◌∷◌, ◌++◌, length, take, drop, refl, sym, ◌∙◌, arith, length-take, length-drop, length-append, Option, Some, None}
+use Rattle.std.proofs.Common.{◌≡◌, ◌⊎◌, inl, inr, ℕ, zero, suc, ◌+◌, ◌<◌, Bool, true, false, List, [], ◌∷◌, ◌++◌, length, take, drop, refl, sym, ◌∙◌, arith, length-take, length-drop, length-append, Option, None}
 use Rattle.std.proofs.lemmas.List.{append-nil}
 use Rattle.cb_fields.specs.declared.links.Link.{Link as LinkOf}
 use Rattle.cb_fields.specs.declared.header.Contents.{Contents}
@@ -8,7 +8,7 @@ use Rattle.cb_fields.specs.declared.header.Header.TheVariants.{End, Bad, Plain, 
 use Rattle.cb_fields.specs.Form.{counted, may_end, is_full, fewer}
 use Rattle.cb_fields.specs.Header.{header}
 use Rattle.cb_fields.specs.Language.{Field, Whole, Spells, none, more, starts_object, IsObject, IsNoObject, HasLinks}
-use Rattle.cb_fields.specs.Fault.{FirstFault, FaultIf, FaultAt}
+use Rattle.cb_fields.specs.Fault.{FirstFault, FaultAt}
 use Rattle.cb_fields.specs.Walk.{Outcome, Fault, Cut, Comes}
 use Rattle.cb_fields.proofs.Front.{opens_some}
 use Rattle.cb_fields.proofs.Found.{OpensField}

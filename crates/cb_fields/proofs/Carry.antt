@@ -1,5 +1,5 @@
 -- What a step of the walk keeps: what is left of each open container completes the whole.
-use Rattle.std.proofs.Common.{◌≡◌, ℕ, ◌+◌, ◌-◌, ◌*◌, ◌<◌, ◌≤◌, List, [], ◌∷◌, ◌++◌, length, take, drop, reverse, refl, sym, ap, ◌∙◌, length-take, length-drop, length-append, arith}
+use Rattle.std.proofs.Common.{◌≡◌, ℕ, ◌+◌, ◌-◌, ◌<◌, ◌≤◌, List, [], ◌∷◌, ◌++◌, length, take, drop, reverse, refl, sym, ap, ◌∙◌, length-take, length-drop, length-append, arith}
 use Rattle.std.proofs.lemmas.List.{append-nil, drop-take, drop-drop, take-take, reverse-append, take_all}
 use Rattle.std.specs.List.{slice_range}
 use Rattle.cb_fields.specs.declared.links.LinkKind.{LinkKind}
@@ -11,7 +11,7 @@ use Rattle.cb_fields.specs.declared.walk.Walk.{Walk}
 use Rattle.cb_fields.specs.Form.{counted, fewer}
 use Rattle.cb_fields.specs.Header.{header}
 use Rattle.cb_fields.specs.Language.{link}
-use Rattle.cb_fields.specs.Walk.{Outcome, Fault, Cut, Comes, Then, Nested, InBounds, Carries, ahead, StepsOn}
+use Rattle.cb_fields.specs.Walk.{Outcome, Fault, Cut, Comes, Then, Nested, InBounds, Carries, StepsOn}
 use Rattle.cb_fields.proofs.Steps.{end_comes, bad_comes, plain_comes, link_comes, inner_fault_comes, within_comes}
 
 nested-end : (at end : ℕ) (outer : List Open) → Nested at outer end → at ≤ end

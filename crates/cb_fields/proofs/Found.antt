@@ -1,5 +1,5 @@
 -- What the header says is spelled at the front.
-use Rattle.std.proofs.Common.{◌≡◌, ◌⊎◌, inl, inr, ℕ, zero, suc, ◌+◌, ◌-◌, ◌%◌, ◌<◌, ◌≤◌, Bool, true, false, nat_lt, if◌then◌else◌, List, [], ◌∷◌, ◌++◌, length, take, drop, refl, sym, subst, ◌∙◌, arith, append_assoc, length-append, length-drop, length-take, add-one, zero-lt-suc, Option, Some, None, ◌==◌}
+use Rattle.std.proofs.Common.{◌≡◌, ℕ, suc, ◌+◌, ◌-◌, ◌%◌, ◌≤◌, Bool, true, false, nat_lt, if◌then◌else◌, List, [], ◌∷◌, ◌++◌, length, take, drop, refl, sym, subst, ◌∙◌, arith, length-append, length-drop, length-take, add-one, Option, Some, None, ◌==◌}
 use Rattle.std.proofs.lemmas.List.{append-nil, take_all, take-append-drop, drop-take, drop-drop, take-take}
 use Rattle.std.proofs.Math.Seq.{take-append-add, drop-append-add, take-add}
 use Rattle.std.proofs.lemmas.Bool.{ltb-false, eqb-true, le-ltb}
@@ -12,10 +12,10 @@ use Rattle.cb_fields.specs.declared.form.Form.TheVariants.{Refused, Fixed, Attac
 use Rattle.cb_fields.specs.declared.header.Contents.{Contents}
 use Rattle.cb_fields.specs.declared.header.Header.{Header}
 use Rattle.cb_fields.specs.declared.header.Header.TheVariants.{End, Bad, Plain, Link, Container}
-use Rattle.cb_fields.specs.Form.{form, is_allowed, is_void, any_fields, nothing, counted, rests, may_end, is_full}
-use Rattle.cb_fields.specs.Header.{sized, sized_by, begin, shifted, uniform_inside, counted_by, uniform_counted_by, inside, number_header, sized_header, container_header, payload, name_by, name_length, rest_by, rest_header, lasting, field_header, header}
-use Rattle.cb_fields.specs.Language.{HasSize, IsName, IsStart, typed, untyped, link, IsPlain, fixed, attachment, number, sized as sized_bytes, Opens, fields, uniform, uniform_empty, array, uniform_array, uniform_array_empty, Field, Whole, Spells, plain, container}
-use Rattle.cb_fields.specs.Fault.{HasHeader, plain_field, container_field, FirstFault, bad_header, missing, left_over}
+use Rattle.cb_fields.specs.Form.{form, is_allowed, is_void, nothing, rests}
+use Rattle.cb_fields.specs.Header.{sized, sized_by, begin, shifted, uniform_inside, counted_by, uniform_counted_by, inside, number_header, sized_header, container_header, payload, name_by, name_length, rest_by, rest_header, lasting, field_header}
+use Rattle.cb_fields.specs.Language.{HasSize, IsName, IsStart, typed, untyped, link, IsPlain, fixed, attachment, number, sized as sized_bytes, Opens, fields, uniform, uniform_empty, array, uniform_array, uniform_array_empty, Field, Spells, plain}
+use Rattle.cb_fields.specs.Fault.{HasHeader, plain_field, container_field}
 use Rattle.cb_fields.proofs.Front.{Takes, plain_header, container_field_header}
 
 varuint_tail : (b : ℕ) (bs : List ℕ) (found : ℕ × ℕ) (short : Bool) → nat_lt (length bs) (followers b) ≡ short

@@ -1,16 +1,15 @@
 -- What is spelled at the front is what the header says.
-use Rattle.std.proofs.Common.{◌≡◌, ◌⊎◌, inl, inr, ℕ, zero, suc, ◌+◌, ◌-◌, ◌%◌, ◌<◌, ◌≤◌, Bool, true, false, nat_lt, if◌then◌else◌, List, [], ◌∷◌, ◌++◌, length, take, drop, refl, sym, ap, subst, ◌∙◌, arith, append_assoc, length-append, length-drop, zero-lt-suc, Option, Some, None, ◌==◌}
-use Rattle.std.proofs.lemmas.List.{append-nil, take_all}
+use Rattle.std.proofs.Common.{◌≡◌, ◌⊎◌, inl, inr, ℕ, zero, suc, ◌+◌, ◌-◌, ◌%◌, ◌<◌, ◌≤◌, Bool, true, false, nat_lt, if◌then◌else◌, List, [], ◌∷◌, ◌++◌, length, take, drop, refl, sym, ◌∙◌, arith, append_assoc, length-append, zero-lt-suc, Option, Some, None, ◌==◌}
+use Rattle.std.proofs.lemmas.List.{append-nil}
 use Rattle.std.proofs.Math.Nat.{mod-eq_of_lt}
 use borrow.Author.Tests.{ltb-true}
 use Rattle.std.proofs.Math.Seq.{take-append_seam, drop-append_seam, drop-append-add}
 use Rattle.std.proofs.lemmas.Bool.{le-ltb}
 use Rattle.std.proofs.lemmas.Bool.Decides.{nat_tests}
 use Rattle.cb_fields.specs.Varuint.{followers, marked, spelled, varuint_at, IsVaruint}
-use Rattle.cb_fields.specs.declared.links.LinkKind.{LinkKind}
 use Rattle.cb_fields.specs.declared.links.Link.{Link as LinkOf}
 use Rattle.cb_fields.specs.declared.form.Form.{Form}
-use Rattle.cb_fields.specs.declared.form.Form.TheVariants.{Fixed, Attachment, Number, Sized, Fields, UniformFields, Array, UniformArray}
+use Rattle.cb_fields.specs.declared.form.Form.TheVariants.{Fixed, Fields, UniformFields, Array, UniformArray}
 use Rattle.cb_fields.specs.declared.header.Contents.{Contents}
 use Rattle.cb_fields.specs.declared.header.Header.{Header}
 use Rattle.cb_fields.specs.declared.header.Header.TheVariants.{End, Bad, Plain, Link, Container}

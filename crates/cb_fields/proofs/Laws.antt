@@ -2,7 +2,6 @@
 use Rattle.std.specs.Prelude.{◌≡◌, ℕ, ◌≤◌, ◌<◌, ◌^◌, ◌⊎◌, List, [], ◌++◌, length, take, Option, Some}
 use Rattle.ddc_names.specs.declared.hash.IoHash.{IoHash}
 use Rattle.cb_fields.specs.declared.links.Link.{Link}
-use Rattle.cb_fields.specs.declared.header.Contents.{Contents}
 use Rattle.cb_fields.specs.Varuint.{IsVaruint, varuint_at}
 use Rattle.cb_fields.specs.Language.{Field, Spells, IsObject, IsNoObject, HasLinks}
 use Rattle.cb_fields.specs.Fault.{HasHeader, FaultAt}

@@ -1,11 +1,11 @@
 -- The shortest spelling spells its number.
-use Rattle.std.proofs.Common.{◌≡◌, ℕ, zero, suc, ◌+◌, ◌-◌, ◌*◌, ◌/◌, ◌%◌, ◌^◌, ◌<◌, ◌≤◌, Bool, true, false, nat_lt, ◌∷◌, length, drop, refl, sym, ap, ◌∙◌, arith, mul_comm}
+use Rattle.std.proofs.Common.{◌≡◌, ℕ, zero, suc, ◌+◌, ◌-◌, ◌*◌, ◌/◌, ◌%◌, ◌^◌, ◌<◌, ◌≤◌, Bool, true, false, nat_lt, ◌∷◌, length, refl, sym, ap, ◌∙◌, arith, mul_comm}
 use Rattle.std.proofs.Math.Nat.{pow-suc, one-le-pow}
 use Rattle.std.proofs.Math.Arith.{mod-mul}
 use Rattle.std.proofs.lemmas.Bool.{ltb-false}
 use borrow.Author.Tests.{ltb-true}
 use Rattle.std.proofs.lemmas.Bool.Decides.{nat_tests}
-use Rattle.std.specs.Int.{w64, to_be_bytes, bytes_high_first, byte_at}
+use Rattle.std.specs.Int.{bytes_high_first, byte_at}
 use Rattle.cb_fields.specs.Varuint.{followers, marked, spelled, IsVaruint}
 use Rattle.cb_fields.specs.Needs.{width, lead, minimal}
 

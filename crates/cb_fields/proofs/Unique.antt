@@ -1,21 +1,20 @@
 -- The language and the first fault are what reading by headers comes to, so they exclude each other and each has one outcome.
-use Rattle.std.proofs.Common.{◌≡◌, ◌⊎◌, inl, inr, ℕ, zero, suc, ◌+◌, ◌-◌, ◌<◌, ◌≤◌, Bool, true, false, if◌then◌else◌, List, [], ◌∷◌, ◌++◌, length, take, drop, refl, sym, subst, ◌∙◌, arith, append_assoc, length-append, length-drop, length-take, Option, Some, None}
+use Rattle.std.proofs.Common.{◌≡◌, ℕ, ◌+◌, ◌-◌, ◌<◌, ◌≤◌, true, false, List, [], ◌∷◌, ◌++◌, length, take, drop, refl, sym, ◌∙◌, arith, append_assoc, length-append, length-drop, Option}
 use Rattle.std.proofs.lemmas.List.{append-nil, take-append-le, drop-append-le, take_all, take-append-drop}
 use Rattle.std.proofs.Math.Seq.{take-append_seam, drop-append_seam}
-use Rattle.cb_fields.specs.declared.links.LinkKind.{LinkKind}
 use Rattle.cb_fields.specs.declared.links.Link.{Link as LinkOf}
 use Rattle.cb_fields.specs.declared.header.Contents.{Contents}
 use Rattle.cb_fields.specs.declared.header.Header.{Header}
 use Rattle.cb_fields.specs.declared.header.Header.TheVariants.{End, Bad, Plain, Link, Container}
-use Rattle.cb_fields.specs.Form.{form, counted, may_end, is_full, fewer}
+use Rattle.cb_fields.specs.Form.{may_end, is_full, fewer}
 use Rattle.cb_fields.specs.Header.{field_header, header}
-use Rattle.cb_fields.specs.Language.{link, IsStart, Opens, Class, Field, Whole, Spells, plain, container, none, more, starts_object, IsObject, IsNoObject, HasLinks}
-use Rattle.cb_fields.specs.Fault.{HasHeader, plain_field, container_field, FirstFault, bad_header, inside, further, missing, left_over, FaultIf, FaultAt}
-use Rattle.cb_fields.specs.Walk.{Outcome, Fault, Cut, Comes}
+use Rattle.cb_fields.specs.Language.{link, Class, Field, Whole, Spells, plain, container, none, more}
+use Rattle.cb_fields.specs.Fault.{HasHeader, plain_field, container_field, FirstFault, bad_header, inside, further, missing, left_over}
+use Rattle.cb_fields.specs.Walk.{Outcome, Fault, Cut}
 use Rattle.cb_fields.proofs.Front.{Takes, plain_header, container_field_header, plain_some_bytes, opens_some}
-use Rattle.cb_fields.proofs.Found.{FieldFound, OpensField}
-use Rattle.cb_fields.proofs.Steps.{HeaderFound, header_found, opened_whole, end_comes, bad_comes, plain_comes, link_comes, inner_fault_comes, within_comes}
-use Rattle.cb_fields.proofs.Reading.{Reads, ended, broken, past_plain, past_link, broken_inside, past_container, one_outcome}
+use Rattle.cb_fields.proofs.Found.{OpensField}
+use Rattle.cb_fields.proofs.Steps.{HeaderFound, header_found, opened_whole}
+use Rattle.cb_fields.proofs.Reading.{Reads, ended, broken, past_plain, past_link, broken_inside, past_container}
 
 header_some : (c : Contents) (bs : List ℕ) → is_full c.count ≡ false → 0 < length bs → header c bs ≡ field_header c.type_byte bs
 unfolding header

@@ -1,12 +1,10 @@
 -- What is written is an object, and tells the hashes.
-use Rattle.std.proofs.Common.{◌≡◌, ◌==◌, false, ℕ, ◌+◌, ◌-◌, ◌^◌, ◌<◌, ◌≤◌, List, [], ◌∷◌, ◌++◌, length, take, drop, refl, sym, arith, length-append, append_assoc, Some, None}
+use Rattle.std.proofs.Common.{◌≡◌, ◌==◌, false, ℕ, ◌-◌, ◌^◌, ◌<◌, ◌≤◌, List, [], ◌∷◌, ◌++◌, length, refl, sym, arith, length-append, append_assoc, Some, None}
 use Rattle.std.proofs.lemmas.List.{append-nil}
 use Rattle.std.proofs.lemmas.Bool.Decides.{nat_tests}
 use Rattle.ddc_names.specs.declared.hash.IoHash.{IoHash}
-use Rattle.cb_fields.specs.declared.links.Link.{Link}
-use Rattle.cb_fields.specs.declared.header.Contents.{Contents}
 use Rattle.cb_fields.specs.Varuint.{followers, marked, IsVaruint}
-use Rattle.cb_fields.specs.Form.{form, is_allowed, rests, counted, any_fields, fewer}
+use Rattle.cb_fields.specs.Form.{form, is_allowed, rests, counted, any_fields}
 use Rattle.cb_fields.specs.Language.{HasSize, typed, untyped, fixed, fields, array, uniform_array, Field, Whole, Spells, plain, container, none, more, IsObject}
 use Rattle.cb_fields.specs.Needs.{minimal, with_size, joined, needs_field, needs_object, AreHashes}
 use Rattle.cb_fields.proofs.Shortest.{minimal_spells}

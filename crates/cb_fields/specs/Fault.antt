@@ -1,5 +1,5 @@
 -- The place of the first fault of bytes that are no object, as they are read from left to right.
-use Rattle.std.specs.Prelude.{◌≡◌, ℕ, ◌+◌, ◌%◌, ◌<◌, Bool, true, false, Option, Some, None, List, [], ◌++◌, length}
+use Rattle.std.specs.Prelude.{◌≡◌, ℕ, ◌+◌, ◌%◌, ◌<◌, Bool, true, false, Option, List, [], ◌++◌, length}
 use Rattle.cb_fields.specs.declared.links.Link.{Link}
 use Rattle.cb_fields.specs.declared.header.Contents.{Contents}
 use Rattle.cb_fields.specs.Form.{form, counted, may_end, is_full, fewer}

@@ -30,7 +30,7 @@ pub enum Form {
 
 /// The form of a code. The codes above 3f are those with flag 40.
 #[tactic(auto, unfolding(crate::specs::Form::form))]
-#[inline]
+#[inline(always)]
 pub fn form_of(code: u8) -> Form
     ensures { result ≡ form code }
 {

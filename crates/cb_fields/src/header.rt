@@ -31,7 +31,7 @@ impl Contents {
     };
 
     /// The contents after one field of them.
-    #[inline]
+    #[inline(always)]
     pub fn fewer(self) -> Contents
         ensures { result ≡ fewer self }
     {
@@ -79,7 +79,7 @@ pub enum Header {
 
 impl Header {
     // The same after some more bytes.
-    #[inline]
+    #[inline(always)]
     fn shift(self, more: usize) -> Header
         requires { more + extent self < 2 ^ 64 }
         ensures value { result ≡ shifted more self }
@@ -101,7 +101,7 @@ impl Header {
 
     // Refuses a field that has no bytes.
     #[tactic(auto, unfolding(crate::specs::Header::lasting))]
-    #[inline]
+    #[inline(always)]
     fn last(self) -> Header
         ensures value { result ≡ lasting self }
         ensures moves { (n : ℕ) → Holds self → extent self ≤ n → 0 < n → Moves n result }
@@ -119,7 +119,7 @@ impl Header {
 
 // How many bytes spell the size at the front, and the size, where that many bytes follow it.
 #[tactic(auto, unfolding(crate::specs::Header::sized))]
-#[inline]
+#[inline(always)]
 fn read_sized(bytes: &[u8]) -> Option<(usize, usize)>
     ensures value { result ≡ sized bytes.now }
     ensures within { IfSome result (λ s. (0 < s.0) × (s.0 + s.1 ≤ length bytes.now)) }
@@ -184,6 +184,7 @@ fn inside_of(form: Form, bytes: &[u8]) -> Header
     }
 }
 
+#[inline(never)]
 fn container_of(form: Form, bytes: &[u8]) -> Header
     ensures value { result ≡ container_header form bytes.now (sized bytes.now) }
     ensures holds { Holds result }
@@ -199,7 +200,7 @@ fn container_of(form: Form, bytes: &[u8]) -> Header
 }
 
 #[tactic(auto, unfolding(crate::specs::Header::payload))]
-#[inline]
+#[inline(always)]
 fn payload_of(form: Form, bytes: &[u8]) -> Header
     ensures value { result ≡ payload form bytes.now }
     ensures holds { Holds result }
@@ -233,7 +234,7 @@ fn payload_of(form: Form, bytes: &[u8]) -> Header
 
 // How many bytes the name takes with its length, where flag 80 asks for one.
 #[tactic(auto, unfolding(crate::specs::Header::name_length))]
-#[inline]
+#[inline(always)]
 fn name_length_of(type_byte: u8, bytes: &[u8]) -> Option<usize>
     ensures value { result ≡ name_length type_byte bytes.now }
     ensures within { IfSome result (λ k. k ≤ length bytes.now) }
@@ -250,7 +251,7 @@ fn name_length_of(type_byte: u8, bytes: &[u8]) -> Option<usize>
 
 // The name and the payload of a type byte.
 #[tactic(auto, unfolding(crate::specs::Header::rest_header))]
-#[inline]
+#[inline(always)]
 fn rest_of(type_byte: u8, bytes: &[u8]) -> Header
     ensures value { result ≡ rest_header type_byte bytes.now }
     ensures holds { Holds result }
@@ -264,7 +265,7 @@ fn rest_of(type_byte: u8, bytes: &[u8]) -> Header
 
 /// What stands at the front of `bytes`, which are left of a container and may still be `contents`.
 #[tactic(auto, unfolding(crate::specs::Header::header))]
-#[inline]
+#[inline(always)]
 pub fn header_of(contents: Contents, bytes: &[u8]) -> Header
     ensures value { result ≡ header contents bytes.now }
     ensures moves { Moves (length bytes.now) result }

@@ -1,6 +1,6 @@
 //! Numbers of one to nine bytes (VarUInt).
 
-ghost use Rattle.std.specs.Prelude.{◌≡◌, ℕ, ◌+◌, ◌*◌, ◌^◌, ◌<◌, ◌≤◌, length, IfSome};
+ghost use Rattle.std.specs.Prelude.{◌≡◌, ℕ, ◌+◌, ◌*◌, ◌^◌, ◌<◌, ◌≤◌, ◌∷◌, length, IfSome};
 ghost use Rattle.cb_fields.specs.Varuint.{followers, marked, spelled, varuint_at};
 
 // How many bytes follow the first: as many as it has leading 1 bits.
@@ -71,12 +71,26 @@ fn spell(high: u64, bytes: &[u8]) -> u64
     }
 }
 
+// The same where bytes follow the first.
+#[inline(never)]
+fn read_long(first: u8, rest: &[u8]) -> Option<(u64, usize)>
+    ensures value { result ≡ varuint_at (first ∷ rest.now) }
+    ensures within { IfSome result (λ found. (0 < found.1) × (found.1 ≤ length rest.now + 1)) }
+{
+    let count = followers_of(first);
+    if rest.len() < count {
+        return None;
+    }
+    Some((spell(low_bits(first), &rest[..count]), 1 + count))
+}
+
 /// The number at the front of the bytes, and how many bytes spell it (1 to 9). `None` where the bytes
 /// end before the number does. A spelling need not be the shortest.
 ///
 /// The first byte has as many leading 1 bits as bytes follow it; its other bits and those bytes are
 /// the number, big-endian.
-#[inline]
+#[tactic(auto, unfolding(crate::specs::Varuint::followers, crate::specs::Varuint::marked))]
+#[inline(always)]
 pub fn read_varuint(bytes: &[u8]) -> Option<(u64, usize)>
     ensures value { result ≡ varuint_at bytes.now }
     ensures within { IfSome result (λ found. (0 < found.1) × (found.1 ≤ length bytes.now)) }
@@ -84,11 +98,11 @@ pub fn read_varuint(bytes: &[u8]) -> Option<(u64, usize)>
     match bytes {
         [] => None,
         [first, rest @ ..] => {
-            let count = followers_of(*first);
-            if rest.len() < count {
-                return None;
+            if *first < 0x80 {
+                Some((*first as u64, 1))
+            } else {
+                read_long(*first, rest)
             }
-            Some((spell(low_bits(*first), &rest[..count]), 1 + count))
         }
     }
 }

@@ -75,7 +75,7 @@ impl Walk {
     }
 
     /// Goes over one header, or out of a container that ends.
-    #[inline]
+    #[inline(always)]
     pub fn advance(&mut self, bytes: &[u8]) -> Result<Step, NoMemory>
         requires { InBounds bytes.now self.old }
         ensures { Advances bytes.now self.old self.new result }

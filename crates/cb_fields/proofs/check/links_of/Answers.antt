@@ -1,4 +1,4 @@
-use Rattle.std.proofs.Common.{◌≡◌, true, List, [], ◌++◌, refl}
+use Rattle.std.proofs.Common.{◌≡◌, true, List, []}
 use Rattle.std.proofs.lemmas.List.{append-nil}
 use Rattle.cb_fields.specs.declared.links.Link.{Link}
 use Rattle.cb_fields.specs.Form.{counted}

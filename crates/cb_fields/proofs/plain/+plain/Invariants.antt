@@ -1,4 +1,3 @@
-use Rattle.std.proofs.Common.{◌<◌}
 use Rattle.cb_fields.proofs.plain.+plain.Given as goal
 
 abbrev pub decreases-is_whole : goal.decreases-is_whole

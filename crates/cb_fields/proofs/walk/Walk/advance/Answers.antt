@@ -1,6 +1,5 @@
-use Rattle.std.proofs.Common.{rules, ◌≡◌, [], ◌∷◌, ◌++◌, refl, arith}
+use Rattle.std.proofs.Common.{rules, ◌≡◌, [], refl, arith}
 use Rattle.std.proofs.lemmas.Grind.{common_steps}
-use Rattle.cb_fields.specs.declared.walk.Open.{Open}
 use Rattle.cb_fields.proofs.Carry.{plain_steps, link_steps, container_steps, end_steps, complete_comes, broken_comes}
 use Rattle.cb_fields.proofs.walk.Walk.advance.Goals as goal
 
