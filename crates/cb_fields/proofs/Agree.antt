@@ -1,5 +1,5 @@
 -- Every list of bytes is an object or has a first fault, not both, and in one way.
-use Rattle.std.proofs.Common.{◌≡◌, ◌⊎◌, inl, inr, ℕ, zero, suc, ◌+◌, ◌<◌, Bool, true, false, List, [], ◌∷◌, ◌++◌, length, take, drop, refl, sym, ◌∙◌, arith, length-take, length-drop, length-append, Option, None}
+use Rattle.std.proofs.Common.{◌≤◌, ◌≡◌, ◌⊎◌, inl, inr, ℕ, zero, suc, ◌+◌, ◌<◌, Bool, true, false, List, [], ◌∷◌, ◌++◌, length, take, drop, refl, sym, ◌∙◌, arith, length-take, length-drop, length-append, Option, None}
 use Rattle.std.proofs.lemmas.List.{append-nil}
 use Rattle.cb_fields.specs.declared.links.Link.{Link as LinkOf}
 use Rattle.cb_fields.specs.declared.header.Contents.{Contents}
@@ -14,7 +14,7 @@ use Rattle.cb_fields.proofs.Front.{opens_some}
 use Rattle.cb_fields.proofs.Found.{OpensField}
 use Rattle.cb_fields.proofs.Steps.{HeaderFound, header_found, end_comes, bad_comes, plain_comes, link_comes, inner_fault_comes, within_comes}
 use Rattle.cb_fields.proofs.Reading.{Reads, last_link, one_outcome}
-use Rattle.cb_fields.proofs.Unique.{spells_read, fault_read}
+use Rattle.cb_fields.proofs.Unique.{spells_read, fault_read, fault_within}
 
 object_reads : (bs : List ℕ) (links : List LinkOf) → IsObject bs links → Reads (counted 1) bs 0 [] (Cut links)
 object_reads bs links o =
@@ -64,6 +64,13 @@ fault_flag bs at other false s a b = (let x : at ≡ 0 = rw s at a in let y : ot
 
 pub fault_once : (bs : List ℕ) (at other : ℕ) → FaultAt bs at → FaultAt bs other → at ≡ other
 fault_once bs at other a b = fault_flag bs at other (starts_object bs) refl a b
+
+within_flag : (bs : List ℕ) (at : ℕ) (flag : Bool) → starts_object bs ≡ flag → FaultAt bs at → at ≤ length bs
+within_flag bs at true s f = (let g : FirstFault (counted 1) bs at = rw s at f in fault_within g)
+within_flag bs at false s f = (let x : at ≡ 0 = rw s at f in omega arith)
+
+pub fault_in_bytes : (bs : List ℕ) (at : ℕ) → FaultAt bs at → at ≤ length bs
+fault_in_bytes bs at f = within_flag bs at (starts_object bs) refl f
 
 -- a field takes bytes
 field_takes : {type_byte : Option ℕ} {f : List ℕ} {ls : List LinkOf} → Spells (Field type_byte) f ls → 0 < length f

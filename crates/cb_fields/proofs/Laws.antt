@@ -9,7 +9,7 @@ use Rattle.cb_fields.specs.Needs.{AreHashes, needs_object}
 use Rattle.cb_fields.proofs.Front.{varuint_read}
 use Rattle.cb_fields.proofs.Found.{varuint_found}
 use Rattle.cb_fields.proofs.Unique.{has_header}
-use Rattle.cb_fields.proofs.Agree.{decided, object_once, fault_no_object, fault_once, object_links, fault_links, links_once}
+use Rattle.cb_fields.proofs.Agree.{decided, object_once, fault_no_object, fault_once, fault_in_bytes, object_links, fault_links, links_once}
 use Rattle.cb_fields.proofs.Written.{needs_are_object}
 use Rattle.cb_fields.proofs.Told.{needs_told}
 
@@ -36,6 +36,10 @@ one_object = object_once
 -- the first fault has one place
 pub one_fault : (bytes : List ℕ) (at other : ℕ) → FaultAt bytes at → FaultAt bytes other → at ≡ other
 one_fault = fault_once
+
+-- and lies in the bytes or at their end
+pub fault_lies_within : (bytes : List ℕ) (at : ℕ) → FaultAt bytes at → at ≤ length bytes
+fault_lies_within = fault_in_bytes
 
 -- a refused header has no continuation: where a field begins, its own header stands, whatever follows the field
 pub field_has_header : {type_byte : Option ℕ} {field : List ℕ} {links : List Link} → Spells (Field type_byte) field links → (others : List ℕ) → HasHeader type_byte (field ++ others)

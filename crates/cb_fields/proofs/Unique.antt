@@ -152,3 +152,15 @@ fault_read (missing {contents = c} m) at links =
 fault_read (left_over {contents = c} {bytes = bs} e some) at links =
     let same : at + 0 ≡ at = omega arith in
     rw same (broken (header_left c bs e some))
+
+-- the first fault lies in the bytes or at their end
+pub fault_within : {c : Contents} {bs : List ℕ} {n : ℕ} → FirstFault c bs n → n ≤ length bs
+fault_within (bad_header e some absent) = omega arith
+fault_within (inside {at = n} start front xs others e s o f) =
+    let within : n ≤ length xs = fault_within f in
+    simp length-append (omega arith)
+fault_within (further {at = n} f fs ls e a b) =
+    let within : n ≤ length fs = fault_within b in
+    rw length-append (omega arith)
+fault_within (missing m) = omega arith
+fault_within (left_over e some) = omega arith
