@@ -1,0 +1,12 @@
+pub mod Room
+pub mod Front
+pub mod Found
+pub mod Steps
+pub mod Carry
+pub mod Reading
+pub mod Unique
+pub mod Agree
+pub mod Shortest
+pub mod Written
+pub mod Told
+pub mod Laws

@@ -1,0 +1,8 @@
+use Rattle.cb_fields.specs.Walk.{InBounds, Carries, ahead}
+use Rattle.cb_fields.proofs.check.links_of.Given as goal
+
+abbrev pub invariant-loop-walk : goal.invariant-loop-walk
+invariant-loop-walk l = InBounds l.bytes l.walk × Carries l.bytes l.walk l.links
+
+abbrev pub decreases-loop-walk : goal.decreases-loop-walk
+decreases-loop-walk l = ahead l.bytes l.walk

@@ -1,0 +1,75 @@
+//! Which bytes are an object, and what an object links to.
+
+ghost use Rattle.std.specs.Prelude.{◌≡◌, IfOk};
+ghost use Rattle.cb_fields.specs.Language.{starts_object, HasLinks};
+ghost use Rattle.cb_fields.specs.Objects.{ChecksAs};
+
+use crate::links::Link;
+use crate::walk::{Step, Walk};
+use ddc_names::{NoMemory, Rows};
+use std::alloc::Global;
+
+/// Why bytes weren't found to be an object.
+#[derive(Clone, Copy, Debug, PartialEq, Eq)]
+pub enum CbFault {
+    /// They are no object.
+    NotObject {
+        /// The place in bytes of the first fault, as they are read from left to right.
+        at: u64,
+    },
+    /// There was no memory for the containers that were open.
+    NoMemory,
+}
+
+// Whether the first field's code is an object's.
+fn starts_as_object(bytes: &[u8]) -> bool
+    ensures { result ≡ starts_object bytes.now }
+{
+    match bytes {
+        [] => false,
+        [type_byte, ..] => *type_byte % 0x80 == 0x02 || *type_byte % 0x80 == 0x03,
+    }
+}
+
+/// Checks that the bytes are an object: one field of code 02 or 03, with or without a name, and nothing
+/// after it. It goes over the bytes once, and takes memory for the containers that are open alone.
+///
+/// # Errors
+///
+/// `NotObject` exactly for bytes that are no object, with the place of the first fault.
+pub fn check_object(alloc: Global, bytes: &[u8]) -> Result<(), CbFault>
+    ensures { ChecksAs bytes.now result }
+{
+    if !starts_as_object(bytes) {
+        return Err(CbFault::NotObject { at: 0 });
+    }
+    let mut walk = Walk::new(alloc, bytes);
+    loop {
+        match walk.advance(bytes) {
+            Ok(Step::Moved) => {}
+            Ok(Step::Met(_)) => {}
+            Ok(Step::Complete) => return Ok(()),
+            Ok(Step::Broken) => return Err(CbFault::NotObject { at: walk.at as u64 }),
+            Err(NoMemory) => return Err(CbFault::NoMemory),
+        }
+    }
+}
+
+/// The links of an object, at every depth, in order of occurrence. Bytes that are no object have none.
+pub fn links_of(alloc: Global, bytes: &[u8]) -> Result<Rows<Link>, NoMemory>
+    ensures { IfOk result (λ rows. HasLinks bytes.now rows) }
+{
+    let mut links = Rows::new(alloc);
+    if !starts_as_object(bytes) {
+        return Ok(links);
+    }
+    let mut walk = Walk::new(alloc, bytes);
+    loop {
+        match walk.advance(bytes)? {
+            Step::Moved => {}
+            Step::Met(link) => links.push(link)?,
+            Step::Complete => return Ok(links),
+            Step::Broken => return Ok(Rows::new(alloc)),
+        }
+    }
+}
