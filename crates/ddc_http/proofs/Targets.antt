@@ -11,7 +11,7 @@ use Rattle.hex.specs.Hex.{is_hex_digit}
 use Rattle.ddc_names.specs.declared.hash.IoHash.{IoHash}
 use Rattle.ddc_names.specs.Texts.{name_fault, digits_fault, bytes_of}
 use Rattle.ddc_names.specs.Names.{checked, name_of, hash_of}
-use Rattle.ddc_names.specs.Laws.{IsUtf8-name, digits_fault-none}
+use Rattle.ddc_names.proofs.Laws.{IsUtf8-name, digits_fault-none}
 
 -- a text with no fault spells the value, and another spells none
 spells_none : {A : Type 0} (fault : Option ℕ) (value : A) → (fault ≡ None → ⊥) → result_ok (checked fault value) ≡ None

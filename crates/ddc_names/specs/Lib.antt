@@ -1,4 +1,3 @@
 pub mod Texts
 pub mod Names
 pub mod Orders
-pub mod Laws

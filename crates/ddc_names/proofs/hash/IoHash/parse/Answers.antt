@@ -1,5 +1,5 @@
 use Rattle.std.proofs.Common.{refl, sym, ◌∙◌}
-use Rattle.ddc_names.specs.Laws.{digits_fault-none, digits_fault-decoded, digits_fault-refused, hash_of-decoded, hash_of-refused}
+use Rattle.ddc_names.proofs.Laws.{digits_fault-none, digits_fault-decoded, digits_fault-refused, hash_of-decoded, hash_of-refused}
 use Rattle.ddc_names.proofs.hash.IoHash.parse.Goals as goal
 
 pub returns-in-Ok-clause-read : goal.returns-in-Ok-clause-read

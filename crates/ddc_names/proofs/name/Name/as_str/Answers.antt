@@ -1,4 +1,4 @@
-use Rattle.ddc_names.specs.Laws.{IsUtf8-name}
+use Rattle.ddc_names.proofs.Laws.{IsUtf8-name}
 use Rattle.ddc_names.proofs.name.Name.as_str.Goals as goal
 
 pub unreachable-requires : goal.unreachable-requires

@@ -1,5 +1,5 @@
 use Rattle.std.proofs.Common.{sym, ◌∙◌}
-use Rattle.ddc_names.specs.Laws.{length-name}
+use Rattle.ddc_names.proofs.Laws.{length-name}
 use Rattle.ddc_names.proofs.name.Name.parse.Goals as goal
 
 pub pad-requires : goal.pad-requires

@@ -1,6 +1,6 @@
 use Rattle.std.proofs.Common.{sym, ap, ◌∙◌}
 use Rattle.ddc_names.specs.Texts.{digits_fault}
-use Rattle.ddc_names.specs.Laws.{digits_fault-decoded, digits_fault-refused, key_of-decoded}
+use Rattle.ddc_names.proofs.Laws.{digits_fault-decoded, digits_fault-refused, key_of-decoded}
 use Rattle.ddc_names.proofs.reference.RefKey.parse.Goals as goal
 
 pub unreachable-requires : goal.unreachable-requires
