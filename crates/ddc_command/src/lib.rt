@@ -5,6 +5,8 @@ mod notes;
 mod plain;
 mod reply;
 mod session;
+#[cfg(test)]
+mod tests;
 mod top;
 
 pub use top::run_local;
