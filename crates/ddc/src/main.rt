@@ -5,13 +5,16 @@ use ddc_command::run_local;
 use ddc_link::{Sink, StdSink, StdSource, SystemClock, put_all};
 use std::alloc::{AllocError, Global};
 use std::env;
+use std::io::ErrorKind;
 use std::process::ExitCode;
 
-// The words behind the program's name.
+// The words behind the program's name. Where one is no text, the words fit no form, as none do.
 fn words_of(rt: &HostRuntime, alloc: Global) -> Result<Vec<String>, AllocError> {
     let mut words = Vec::new(alloc);
-    let Ok(all) = env::args(rt) else {
-        return Err(AllocError);
+    let all = match env::args(rt) {
+        Ok(all) => all,
+        Err(fault) if fault.kind() == ErrorKind::InvalidData => return Ok(words),
+        Err(_) => return Err(AllocError),
     };
     for word in all.skip(1) {
         words.push(word)?;
