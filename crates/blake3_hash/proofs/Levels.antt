@@ -1,5 +1,5 @@
 -- How the levels of a spine follow a list of values as it grows, and what they join to.
-use Rattle.std.proofs.Common.{◌≡◌, ◌≢◌, ℕ, zero, suc, ◌+◌, ◌-◌, ◌*◌, ◌/◌, ◌%◌, ◌^◌, ◌<◌, ◌≤◌, List, [], ◌∷◌, ◌++◌, length, slice_index_or, slice_set, refl, sym, ap, ◌∙◌, arith, inl, inr, add-one}
+use Rattle.std.proofs.Common.{◌≡◌, ◌≢◌, ℕ, zero, suc, ◌+◌, ◌-◌, ◌*◌, ◌/◌, ◌%◌, ◌^◌, ◌<◌, ◌≤◌, List, [], ◌∷◌, ◌++◌, length, slice_index_or, slice_set, refl, sym, ap, ◌∙◌, arith, inl, inr, add-one, length-append}
 use Rattle.std.proofs.lemmas.List.{get_or-set_same, get_or-set_other, length_push, length-set}
 use Rattle.std.proofs.lemmas.Bool.{cases_lt}
 use Rattle.std.proofs.Math.Nat.{pow-succ', mul-le-mul_right}
@@ -64,22 +64,81 @@ pub Holds_level : (levels : List (List ℕ)) (count : ℕ) (xs : List (List ℕ)
 unfolding Holds
 Holds_level levels count xs k h lt odd = h.2 k lt odd
 
--- ---- a value is pushed
+-- ---- the values of a subtree are pushed
 
--- below level k the values of xs and v have an even number, and at level k the last is the carry
-pub record Carries (k : ℕ) (xs : List (List ℕ)) (v carry : List ℕ) : Type 0 where
-  pub at : pairs_at k (xs ++ v ∷ []) ≡ pairs_at k xs ++ carry ∷ []
-  pub below : (j : ℕ) → j < k → length (pairs_at j (xs ++ v ∷ [])) % 2 ≡ 0
+-- below level k the values of xs and ys have an even number, and at level k the last is the carry
+pub record Carries (k : ℕ) (xs ys : List (List ℕ)) (carry : List ℕ) : Type 0 where
+  pub at : pairs_at k (xs ++ ys) ≡ pairs_at k xs ++ carry ∷ []
+  pub below : (j : ℕ) → j < k → length (pairs_at j (xs ++ ys)) % 2 ≡ 0
 
-pub Carries_first : (xs : List (List ℕ)) (v : List ℕ) → Carries 0 xs v v
+pairs-append : (xs ys : List (List ℕ)) → length xs % 2 ≡ 0 → pairs (xs ++ ys) ≡ pairs xs ++ pairs ys
+unfolding pairs
+pairs-append [] ys h = refl
+pairs-append (x ∷ []) ys h = absurd (omega arith)
+pairs-append (x ∷ y ∷ xs) ys h = ap (λ (r : List (List ℕ)). parent_value x y 0 ∷ r) (pairs-append xs ys (omega arith))
+
+lifted-even : (xs : List (List ℕ)) → length xs % 2 ≡ 0 → lifted xs ≡ pairs xs
+unfolding pairs lifted
+lifted-even [] h = refl
+lifted-even (x ∷ []) h = absurd (omega arith)
+lifted-even (x ∷ y ∷ xs) h = ap (λ (r : List (List ℕ)). parent_value x y 0 ∷ r) (lifted-even xs (omega arith))
+
+-- the first level may be left first
+pairs_at_inner : (k : ℕ) (xs : List (List ℕ)) → pairs_at (suc k) xs ≡ pairs_at k (pairs xs)
 unfolding pairs_at
-Carries_first xs v = record { at = refl; below = λ j lt. absurd (omega arith) }
+pairs_at_inner zero xs = refl
+pairs_at_inner (suc k) xs = ap pairs (pairs_at_inner k xs)
 
-pub Carries_next : (k : ℕ) (xs : List (List ℕ)) (v carry next : List ℕ) → Carries k xs v carry → length (pairs_at k xs) % 2 ≡ 1
-    → next ≡ parent_value (last_of (pairs_at k xs)) carry 0 → Carries (k + 1) xs v next
-Carries_next k xs v carry next c odd e = record {
+-- of a multiple of 2 ^ (k + 1) values
+twice : (n q k : ℕ) → n ≡ q * 2 ^ suc k → n ≡ 2 * (q * 2 ^ k)
+twice n q k h =
+    let p : 2 ^ suc k ≡ 2 * 2 ^ k = pow-succ' 2 k in
+    let e : n ≡ q * (2 * 2 ^ k) = rw p at h in
+    omega (arith, e)
+
+pub length-pairs_at_exact : (k q : ℕ) (xs : List (List ℕ)) → length xs ≡ q * 2 ^ k → length (pairs_at k xs) ≡ q
+length-pairs_at_exact zero q xs h = ap length (pairs_at_first xs) ∙ omega (arith, h)
+length-pairs_at_exact (suc k) q xs h =
+    ap length (pairs_at_inner k xs)
+    ∙ length-pairs_at_exact k q (pairs xs) (omega (arith, length-pairs xs, twice (length xs) q k h))
+
+below_next : (k : ℕ) (xs ys : List (List ℕ)) → length xs % 2 ≡ 0 → length ys % 2 ≡ 0
+    → ((j : ℕ) → j < k → length (pairs_at j (pairs xs ++ pairs ys)) % 2 ≡ 0) → (j : ℕ) → j < suc k → length (pairs_at j (xs ++ ys)) % 2 ≡ 0
+below_next k xs ys ex ey h zero lt = rw pairs_at_first (omega (arith, length-append xs ys))
+below_next k xs ys ex ey h (suc j) lt = rw (pairs_at_inner j (xs ++ ys), pairs-append xs ys ex) (h j (omega arith))
+
+one_value : (ys : List (List ℕ)) (v : List ℕ) → length ys ≡ 1 → joined 0 ys 0 ≡ v → ys ≡ v ∷ []
+unfolding joined
+one_value [] v l e = absurd (omega arith)
+one_value (y ∷ []) v l e = ap (λ (r : List ℕ). r ∷ []) e
+one_value (y ∷ z ∷ ys) v l e = absurd (omega arith)
+
+-- behind a multiple of 2 ^ k values the tree over 2 ^ k more is the carry at level k
+pub Carries_subtree : (k q : ℕ) (xs ys : List (List ℕ)) (v : List ℕ) → length xs ≡ q * 2 ^ k → length ys ≡ 2 ^ k → joined k ys 0 ≡ v → Carries k xs ys v
+Carries_subtree zero q xs ys v lx ly e = record {
+  at = rw (pairs_at_first, pairs_at_first, one_value ys v (omega (arith, ly)) e) refl;
+  below = λ j lt. absurd (omega arith);
+}
+Carries_subtree (suc k) q xs ys v lx ly e =
+    let p : 2 ^ suc k ≡ 2 * 2 ^ k = pow-succ' 2 k in
+    let pos : k < 2 ^ k = below_power k in
+    let ex : length xs ≡ 2 * (q * 2 ^ k) = twice (length xs) q k lx in
+    let even : length xs % 2 ≡ 0 = omega arith in
+    let even_too : length ys % 2 ≡ 0 = omega arith in
+    let up : joined k (pairs ys) 0 ≡ v =
+    rw (← lifted-even ys even_too) (sym (joined-lifted k ys 0 (omega arith) (omega arith) (λ _. refl)) ∙ e) in
+    let c : Carries k (pairs xs) (pairs ys) v =
+    Carries_subtree k q (pairs xs) (pairs ys) v (omega (arith, length-pairs xs)) (omega (arith, length-pairs ys)) up in
+    record {
+      at = rw (pairs_at_inner k (xs ++ ys), pairs-append xs ys even, pairs_at_inner k xs) c.at;
+      below = below_next k xs ys even even_too c.below;
+    }
+
+pub Carries_next : (k : ℕ) (xs ys : List (List ℕ)) (carry next : List ℕ) → Carries k xs ys carry → length (pairs_at k xs) % 2 ≡ 1
+    → next ≡ parent_value (last_of (pairs_at k xs)) carry 0 → Carries (k + 1) xs ys next
+Carries_next k xs ys carry next c odd e = record {
   at =
-      rw (pairs_at_next k (xs ++ v ∷ []), pairs_at_next k xs, c.at, e)
+      rw (pairs_at_next k (xs ++ ys), pairs_at_next k xs, c.at, e)
       (pairs-push_odd (pairs_at k xs) carry odd);
   below = λ j lt. elim (cases_lt j k) [
     | inl a ↦ c.below j a
@@ -91,29 +150,29 @@ Carries_next k xs v carry next c odd e = record {
 }
 
 -- above a level with an even number nothing changes
-pairs_at_above : (k e : ℕ) (xs : List (List ℕ)) (v carry : List ℕ) → Carries k xs v carry → length (pairs_at k xs) % 2 ≡ 0
-    → pairs_at (k + 1 + e) (xs ++ v ∷ []) ≡ pairs_at (k + 1 + e) xs
-pairs_at_above k zero xs v carry c even =
+pairs_at_above : (k e : ℕ) (xs ys : List (List ℕ)) (carry : List ℕ) → Carries k xs ys carry → length (pairs_at k xs) % 2 ≡ 0
+    → pairs_at (k + 1 + e) (xs ++ ys) ≡ pairs_at (k + 1 + e) xs
+pairs_at_above k zero xs ys carry c even =
     let z : k + 1 + 0 ≡ k + 1 = omega arith in
-    rw (z, pairs_at_next k (xs ++ v ∷ []), pairs_at_next k xs, c.at) (pairs-push_even (pairs_at k xs) carry even)
-pairs_at_above k (suc e) xs v carry c even =
+    rw (z, pairs_at_next k (xs ++ ys), pairs_at_next k xs, c.at) (pairs-push_even (pairs_at k xs) carry even)
+pairs_at_above k (suc e) xs ys carry c even =
     let z : k + 1 + suc e ≡ k + 1 + e + 1 = omega arith in
-    rw (z, pairs_at_next (k + 1 + e) (xs ++ v ∷ []), pairs_at_next (k + 1 + e) xs, pairs_at_above k e xs v carry c even) refl
+    rw (z, pairs_at_next (k + 1 + e) (xs ++ ys), pairs_at_next (k + 1 + e) xs, pairs_at_above k e xs ys carry c even) refl
 
-pub Holds_push : (levels : List (List ℕ)) (count : ℕ) (xs : List (List ℕ)) (v carry : List ℕ) (k : ℕ) → k < 54 → Holds levels count xs
-    → Carries k xs v carry → length (pairs_at k xs) % 2 ≡ 0 → Holds (slice_set levels k carry) (count + 1) (xs ++ v ∷ [])
+pub Holds_push : (levels : List (List ℕ)) (count : ℕ) (xs ys : List (List ℕ)) (carry : List ℕ) (k n : ℕ) → k < 54 → n ≡ count + length ys → Holds levels count xs
+    → Carries k xs ys carry → length (pairs_at k xs) % 2 ≡ 0 → Holds (slice_set levels k carry) n (xs ++ ys)
 unfolding Holds
-Holds_push levels count xs v carry k lt h c even = (
+Holds_push levels count xs ys carry k n lt en h c even = (
   length-set levels k carry ∙ h.0,
-  omega (arith, h.1, length_push xs v),
+  omega (arith, h.1, length-append xs ys),
   λ j jlt odd. elim (cases_lt j k) [
     | inl a ↦ absurd (omega (arith, c.below j a))
     | inr b ↦ elim (cases_lt k j) [
       | inl above ↦
           let ne : j ≢ k = omega arith in
           let at : j ≡ k + 1 + (j - (k + 1)) = omega arith in
-          let same : pairs_at j (xs ++ v ∷ []) ≡ pairs_at j xs =
-          ap (λ (i : ℕ). pairs_at i (xs ++ v ∷ [])) at ∙ pairs_at_above k (j - (k + 1)) xs v carry c even ∙ ap (λ (i : ℕ). pairs_at i xs) (sym at) in
+          let same : pairs_at j (xs ++ ys) ≡ pairs_at j xs =
+          ap (λ (i : ℕ). pairs_at i (xs ++ ys)) at ∙ pairs_at_above k (j - (k + 1)) xs ys carry c even ∙ ap (λ (i : ℕ). pairs_at i xs) (sym at) in
           get_or-set_other levels k j carry [] ne ∙ h.2 j jlt (rw same at odd) ∙ ap last_of (sym same)
       | inr beside ↦
           let e : j ≡ k = omega arith in

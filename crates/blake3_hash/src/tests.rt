@@ -269,6 +269,14 @@ fn spine_joins_chunk_values(rt: HostRuntime) -> Result<(), Fail> {
     spine.push(&chunk_value(&counted_chunk(2), 2));
     let found = spine.finish(&counted_chunk(3)[..1]);
     assert_eq!(rt; parts(&found)[0], 0x7124b49501012f81);
+    let mut joined = Spine::new();
+    let pair = parent_value(
+        &chunk_value(&counted_chunk(0), 0),
+        &chunk_value(&counted_chunk(1), 1),
+    );
+    joined.push_subtree(&pair, 1);
+    joined.push(&chunk_value(&counted_chunk(2), 2));
+    assert_eq!(rt; joined.finish(&counted_chunk(3)[..1]), found);
     Ok(())
 }
 

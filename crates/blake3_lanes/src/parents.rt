@@ -1,60 +1,54 @@
 // The values of parents side by side.
 ghost use Rattle.std.specs.Prelude.{◌≡◌, ℕ, ◌+◌, ◌<◌, ◌≤◌, ◌++◌, List, [], slice_index, slice_index_or};
 ghost use Rattle.tree_hash.specs.TreeHash.{eight, parent_value};
+ghost use Rattle.blake3_hash.specs.Spine.{joined};
 ghost use Rattle.blake3_lanes.specs.Lanes.{lane};
 
 use crate::kernel::{compress, rows, start_values};
 use crate::vectors::splat;
+use blake3_hash::parent_value;
 use std::simd::prelude::*;
 
-// Word i of each of four values from the value `at` on.
+// Word i of each of four values.
 #[inline(always)]
-fn words_at(values: &[[u32; 8]; 8], at: usize, i: usize) -> u32x4
-    requires at { at ≤ 4 }
-    requires i { i < 8 }
-    ensures { (j : ℕ) → j < 4 → slice_index result j ≡ slice_index (slice_index_or values.now (at + j) []) i }
+fn words_at(values: &[[u32; 8]; 4], i: usize) -> u32x4
+    requires { i < 8 }
+    ensures { (j : ℕ) → j < 4 → slice_index result j ≡ slice_index (slice_index_or values.now j []) i }
 {
-    u32x4::from_array([
-        values[at][i],
-        values[at + 1][i],
-        values[at + 2][i],
-        values[at + 3][i],
-    ])
+    u32x4::from_array([values[0][i], values[1][i], values[2][i], values[3][i]])
 }
 
-// The messages of four parents, from the values `at` on.
+// The messages of four parents.
 #[inline(always)]
-fn messages(left: &[[u32; 8]; 8], right: &[[u32; 8]; 8], at: usize) -> [u32x4; 16]
-    requires { at ≤ 4 }
-    ensures { (j : ℕ) → j < 4 → lane j result ≡ eight (slice_index_or left.now (at + j) []) ++ eight (slice_index_or right.now (at + j) []) }
+fn messages(left: &[[u32; 8]; 4], right: &[[u32; 8]; 4]) -> [u32x4; 16]
+    ensures { (j : ℕ) → j < 4 → lane j result ≡ eight (slice_index_or left.now j []) ++ eight (slice_index_or right.now j []) }
 {
     [
-        words_at(left, at, 0),
-        words_at(left, at, 1),
-        words_at(left, at, 2),
-        words_at(left, at, 3),
-        words_at(left, at, 4),
-        words_at(left, at, 5),
-        words_at(left, at, 6),
-        words_at(left, at, 7),
-        words_at(right, at, 0),
-        words_at(right, at, 1),
-        words_at(right, at, 2),
-        words_at(right, at, 3),
-        words_at(right, at, 4),
-        words_at(right, at, 5),
-        words_at(right, at, 6),
-        words_at(right, at, 7),
+        words_at(left, 0),
+        words_at(left, 1),
+        words_at(left, 2),
+        words_at(left, 3),
+        words_at(left, 4),
+        words_at(left, 5),
+        words_at(left, 6),
+        words_at(left, 7),
+        words_at(right, 0),
+        words_at(right, 1),
+        words_at(right, 2),
+        words_at(right, 3),
+        words_at(right, 4),
+        words_at(right, 5),
+        words_at(right, 6),
+        words_at(right, 7),
     ]
 }
 
-fn parents4(left: &[[u32; 8]; 8], right: &[[u32; 8]; 8], at: usize) -> [[u32; 8]; 4]
-    requires { at ≤ 4 }
-    ensures { (j : ℕ) → j < 4 → slice_index_or result j [] ≡ parent_value (slice_index_or left.now (at + j) []) (slice_index_or right.now (at + j) []) 0 }
+fn parents4(left: &[[u32; 8]; 4], right: &[[u32; 8]; 4]) -> [[u32; 8]; 4]
+    ensures { (j : ℕ) → j < 4 → slice_index_or result j [] ≡ parent_value (slice_index_or left.now j []) (slice_index_or right.now j []) 0 }
 {
     rows(&compress(
         &start_values(),
-        &messages(left, right, at),
+        &messages(left, right),
         splat(0),
         splat(0),
         64,
@@ -66,9 +60,30 @@ fn parents4(left: &[[u32; 8]; 8], right: &[[u32; 8]; 8], at: usize) -> [[u32; 8]
 pub fn parents8(left: &[[u32; 8]; 8], right: &[[u32; 8]; 8]) -> [[u32; 8]; 8]
     ensures { (k : ℕ) → k < 8 → slice_index_or result k [] ≡ parent_value (slice_index_or left.now k []) (slice_index_or right.now k []) 0 }
 {
-    let front = parents4(left, right, 0);
-    let back = parents4(left, right, 4);
+    let front = parents4(
+        &[left[0], left[1], left[2], left[3]],
+        &[right[0], right[1], right[2], right[3]],
+    );
+    let back = parents4(
+        &[left[4], left[5], left[6], left[7]],
+        &[right[4], right[5], right[6], right[7]],
+    );
     [
         front[0], front[1], front[2], front[3], back[0], back[1], back[2], back[3],
     ]
+}
+
+// The value of the tree over eight values, which isn't the root.
+pub(crate) fn subtree8(values: &[[u32; 8]; 8]) -> [u32; 8]
+    ensures { result ≡ joined 3 values.now 0 }
+{
+    let low = parents4(
+        &[values[0], values[2], values[4], values[6]],
+        &[values[1], values[3], values[5], values[7]],
+    );
+    let high = parents4(
+        &[low[0], low[2], low[0], low[2]],
+        &[low[1], low[3], low[1], low[3]],
+    );
+    parent_value(&high[0], &high[1])
 }

@@ -6,6 +6,7 @@ ghost use Rattle.blake3_hash.specs.Fed.{IsHeld};
 ghost use Rattle.blake3_lanes.specs.WideFed.{IsWideFed, wide_length};
 
 use crate::chunks::chunks8;
+use crate::parents::subtree8;
 use blake3_hash::{Spine, chunk_value};
 use std::marker::Model;
 
@@ -95,14 +96,14 @@ fn chunks_of_groups(len: usize) -> u64
     8 * ((len - 1) / 8192) as u64
 }
 
+// Puts eight values on a spine that has a multiple of eight.
 fn push_values(spine: &mut Spine, values: &[[u32; 8]; 8])
-    requires { spine.old.count < 2 ^ 54 - 8 }
+    requires room { spine.old.count + 8 < 2 ^ 54 }
+    requires aligned { spine.old.count % 8 ≡ 0 }
     ensures count { spine.new.count ≡ spine.old.count + 8 }
     ensures pushed { (xs : List (List ℕ)) → IsPushed spine.old xs → IsPushed spine.new (xs ++ values.now) }
 {
-    'each: for value in values {
-        spine.push(value);
-    }
+    spine.push_subtree(&subtree8(values), 3);
 }
 
 // The values of the first `whole` chunks of the buffer; what else it has is counted in where it is quicker.
@@ -137,6 +138,7 @@ fn push_front(spine: &mut Spine, values: &[[u32; 8]; 8], whole: usize)
 // of the buffer. Gives their number.
 fn absorb(spine: &mut Spine, buffer: &mut [u8; 8192], number: u64, bytes: &[u8]) -> usize
     requires number { number ≡ spine.old.count }
+    requires aligned { number % 8 ≡ 0 }
     requires some { 1 ≤ length bytes.now }
     requires room { 1024 * spine.old.count + length bytes.now < 2 ^ 64 }
     ensures used { result ≡ length bytes.now - 8192 * ((length bytes.now - 1) / 8192) }
