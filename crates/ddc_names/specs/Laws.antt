@@ -1,7 +1,7 @@
 -- What the least faults of texts say.
-use Rattle.std.proofs.Common.{◌≡◌, ◌≢◌, ℕ, ◌+◌, ◌*◌, ◌%◌, is_some, unwrap_or, ◌≤◌, ◌<◌, Bool, true, false, ◌&&◌, List, [], ◌∷◌, length, nat_lt, if◌then◌else◌, Option, Some, None, Result, Ok, Err, refl, sym, ap, ◌∙◌, arith}
-use Rattle.std.specs.Prelude.{◌↔◌, IsOk, IsUtf8, slice_index}
-use Rattle.std.specs.List.{AllPass}
+use Rattle.std.proofs.Common.{◌≡◌, ◌≢◌, ℕ, ◌+◌, ◌*◌, ◌%◌, is_some, unwrap_or, ◌≤◌, ◌<◌, Bool, true, false, ◌&&◌, ◌==◌, nat_le, List, [], ◌∷◌, length, nat_lt, if◌then◌else◌, Option, Some, None, Result, Ok, Err, refl, sym, ap, ◌∙◌, arith}
+use Rattle.std.specs.Prelude.{◌↔◌, IsUtf8, slice_index}
+use Rattle.std.specs.List.{AllPass, list_all}
 use Rattle.std.specs.Result.{result_ok}
 use Rattle.std.specs.Char.{is_ascii_alphanumeric}
 use Rattle.std.specs.Str.{IsAscii}
@@ -10,13 +10,13 @@ use Rattle.std.proofs.lemmas.Bool.Decides.{nat_tests}
 use Rattle.std.proofs.lemmas.List.Elements.{All-cons, All-head, All-nil, All-tail}
 use Rattle.std.proofs.lemmas.Str.{IsUtf8-from_ascii}
 use Rattle.std.proofs.lemmas.Str.Ascii.{IsAscii-nil, IsAscii-cons}
-use Rattle.hex.specs.Hex.{IsBytes, decode_pairs, decode_sized, digit_or_error, hex_digit_value, is_hex_digit, pair_value}
+use Rattle.hex.specs.Hex.{decode_pairs, decode_sized, digit_or_error, hex_digit_value, is_hex_digit, pair_value}
 use Rattle.hex.specs.declared.error.FromHexError.{FromHexError}
 use Rattle.hex.proofs.Pairs.{cons_byte, decode_pairs-ok_pair, decode_sized-pairs}
 use Rattle.hex.proofs.HexLemmas.{IsOk-decode_sized, decode_sized-encode_lower}
 use Rattle.ddc_names.specs.declared.hash.IoHash.{IoHash}
 use Rattle.ddc_names.specs.declared.reference.RefKey.{RefKey}
-use Rattle.ddc_names.specs.Texts.{fault_from, is_name_byte_at, name_fault, digits_fault, digit_of, bytes_of}
+use Rattle.ddc_names.specs.Texts.{fault_from, is_name, is_name_byte, is_name_byte_at, name_fault, digits_fault, digit_of, bytes_of}
 use Rattle.ddc_names.specs.Names.{checked, hash_of, hash_text, key_of, key_text}
 
 -- where a step leaves no fault, its test passed
@@ -45,6 +45,56 @@ length-name text h = let within = (rest_of_name 0 text (omega arith) h).0 in ome
 -- a name is text
 pub IsUtf8-name : (text : List ℕ) → name_fault text ≡ None → IsUtf8 text
 IsUtf8-name text h = IsUtf8-from_ascii text (rest_of_name 0 text (omega arith) h).1
+
+-- behind a name's first byte any byte of a name may stand
+later_byte : (at b : ℕ) → 0 < at → is_name_byte_at at b ≡ is_name_byte b
+later_byte at b later =
+    let test : (at == 0) ≡ false = grind (arith, nat_tests) in
+    rw test refl
+
+-- what follows a place of a name is bytes of a name
+rest_bytes : (at : ℕ) (text : List ℕ) → 0 < at → fault_from is_name_byte_at 1 64 at text ≡ None → list_all is_name_byte text ≡ true
+rest_bytes at [] later h = refl
+rest_bytes at (b ∷ rest) later h =
+    let here = step_none (nat_lt at 64 && is_name_byte_at at b) (fault_from is_name_byte_at 1 64 (at + 1) rest) at h in
+    let byte = sym (later_byte at b later) ∙ (and_parts (nat_lt at 64) (is_name_byte_at at b) here.0).1 in
+    rw (byte, rest_bytes (at + 1) rest (omega arith) here.1) refl
+
+-- bytes of a name that end by place 64 leave no fault
+faultless_bytes : (at : ℕ) (text : List ℕ) → 0 < at → at + length text ≤ 64 → list_all is_name_byte text ≡ true → fault_from is_name_byte_at 1 64 at text ≡ None
+faultless_bytes at [] later within h = grind (arith, nat_tests)
+faultless_bytes at (b ∷ rest) later within h =
+    let parts = and_parts (is_name_byte b) (list_all is_name_byte rest) h in
+    let ih = faultless_bytes (at + 1) rest (omega arith) (omega arith) parts.1 in
+    let room : nat_lt at 64 ≡ true = grind (arith, nat_tests) in
+    let byte = later_byte at b later ∙ parts.0 in
+    rw (room, byte) ih
+
+-- a name's first byte
+first_byte : (b : ℕ) → is_ascii_alphanumeric b ≡ true → is_name_byte b ≡ true
+first_byte b h = rw h refl
+
+-- the names are the texts without a fault
+pub name_fault-none : (text : List ℕ) → (name_fault text ≡ None) ↔ (is_name text ≡ true)
+name_fault-none [] = (λ h. cc, λ h. cc)
+name_fault-none (b ∷ rest) = (
+  λ h.
+      let here = step_none (nat_lt 0 64 && is_ascii_alphanumeric b) (fault_from is_name_byte_at 1 64 (0 + 1) rest) 0 h in
+      let byte = (and_parts (nat_lt 0 64) (is_ascii_alphanumeric b) here.0).1 in
+      let within = length-name (b ∷ rest) h in
+      let least : nat_le 1 (length (b ∷ rest)) ≡ true = grind (arith, nat_tests) in
+      let most : nat_le (length (b ∷ rest)) 64 ≡ true = grind (arith, nat_tests) in
+      let bytes = rest_bytes 1 rest (omega arith) here.1 in
+      rw (least, most, byte, bytes) refl,
+  λ h.
+      let tests = and_parts (nat_le 1 (length (b ∷ rest)) && nat_le (length (b ∷ rest)) 64 && is_ascii_alphanumeric b) (is_name_byte b && list_all is_name_byte rest) h in
+      let front = and_parts (nat_le 1 (length (b ∷ rest)) && nat_le (length (b ∷ rest)) 64) (is_ascii_alphanumeric b) tests.0 in
+      let bytes = and_parts (is_name_byte b) (list_all is_name_byte rest) tests.1 in
+      let most = (and_parts (nat_le 1 (length (b ∷ rest))) (nat_le (length (b ∷ rest)) 64) front.0).1 in
+      let within : 1 + length rest ≤ 64 = grind (arith, nat_tests) in
+      let ih = faultless_bytes 1 rest (omega arith) within bytes.1 in
+      rw front.1 ih,
+)
 
 -- the fact of `AllPass is_hex_digit`
 abbrev IsDigit : ℕ → Type 0
@@ -135,9 +185,9 @@ key_of-decoded text bytes h =
     rw (parts.0, parts.1) refl
 
 -- reading the text of a hash gives the hash back
-pub hash_of-hash_text : (hash : IoHash) → length hash.0 ≡ 20 → IsBytes hash.0 → hash_of (hash_text hash) ≡ Some hash
+pub hash_of-hash_text : (hash : IoHash) → length hash.0 ≡ 20 → ((i : ℕ) → slice_index hash.0 i < 256) → hash_of (hash_text hash) ≡ Some hash
 hash_of-hash_text hash len bytes = hash_of-decoded (hash_text hash) hash.0 (decode_sized-encode_lower hash.0 20 len bytes)
 
 -- reading the text of a key gives the key back
-pub key_of-key_text : (key : RefKey) → length key.0 ≡ 20 → IsBytes key.0 → key_of (key_text key) ≡ Ok key
+pub key_of-key_text : (key : RefKey) → length key.0 ≡ 20 → ((i : ℕ) → slice_index key.0 i < 256) → key_of (key_text key) ≡ Ok key
 key_of-key_text key len bytes = key_of-decoded (key_text key) key.0 (decode_sized-encode_lower key.0 20 len bytes)

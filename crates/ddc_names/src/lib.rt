@@ -7,6 +7,8 @@ mod hash;
 mod name;
 mod reference;
 mod rows;
+#[cfg(test)]
+mod tests;
 
 pub use hash::IoHash;
 pub use name::{BadName, Bucket, Namespace};

@@ -1,6 +1,6 @@
 //! The names of namespaces and buckets.
 
-ghost use Rattle.std.specs.Prelude.{◌≡◌, ◌≤◌, ◌&&◌, nat_lt, length, None, Some};
+ghost use Rattle.std.specs.Prelude.{◌≡◌, ◌≤◌, ◌&&◌, nat_lt, length, None, Some, IfOk, IfErr, OnOk};
 ghost use Rattle.std.specs.Ordering.{nat_cmp};
 ghost use Rattle.std.specs.Cmp.{on_equiv, on_total, on_po, on_per, partial_equiv_from_equiv};
 ghost use Rattle.std.specs.Cmp.Lexicographic.{pointwise, slice_cmp, nat_list_eq_equiv, nat_list_cmp_total, texts_po, texts_ties};
@@ -44,7 +44,10 @@ impl Model for Name {
 
 impl Name {
     fn parse(text: &str) -> Result<Name, BadName>
-        ensures { result ≡ name_of text.now }
+        ensures read { result ≡ name_of text.now }
+        ensures text { IfOk result (λ name. name ≡ text.now) }
+        ensures named { OnOk result (name_fault text.now ≡ None) }
+        ensures fault { IfErr result (λ fault. name_fault text.now ≡ Some fault.at) }
     {
         let text = text.as_bytes();
         if let Some(at) = find_fault(text) {
@@ -143,7 +146,10 @@ impl Namespace {
     /// `BadName` with the least place at which the text breaks the rule: a byte that isn't allowed
     /// there, 64 where the text is longer, 0 where it is empty.
     pub fn parse(text: &str) -> Result<Namespace, BadName>
-        ensures { result ≡ name_of text.now }
+        ensures read { result ≡ name_of text.now }
+        ensures text { IfOk result (λ name. name ≡ text.now) }
+        ensures named { OnOk result (name_fault text.now ≡ None) }
+        ensures fault { IfErr result (λ fault. name_fault text.now ≡ Some fault.at) }
     {
         match Name::parse(text) {
             Ok(name) => Ok(Namespace { name }),
@@ -183,7 +189,10 @@ impl Bucket {
     ///
     /// `BadName` as at `Namespace::parse`.
     pub fn parse(text: &str) -> Result<Bucket, BadName>
-        ensures { result ≡ name_of text.now }
+        ensures read { result ≡ name_of text.now }
+        ensures text { IfOk result (λ name. name ≡ text.now) }
+        ensures named { OnOk result (name_fault text.now ≡ None) }
+        ensures fault { IfErr result (λ fault. name_fault text.now ≡ Some fault.at) }
     {
         match Name::parse(text) {
             Ok(name) => Ok(Bucket { name }),

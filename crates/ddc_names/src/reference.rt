@@ -1,8 +1,8 @@
 //! The names of references.
 
-ghost use Rattle.std.specs.Prelude.{◌≡◌, ◌&&◌, nat_lt};
+ghost use Rattle.std.specs.Prelude.{◌≡◌, ◌&&◌, nat_lt, None, Some, IfOk, IfErr, OnOk};
 ghost use Rattle.hex.specs.Hex.{is_hex_digit};
-ghost use Rattle.ddc_names.specs.Texts.{digits_fault};
+ghost use Rattle.ddc_names.specs.Texts.{bytes_of, digits_fault};
 ghost use Rattle.ddc_names.specs.Names.{key_of, key_text};
 
 use crate::{BadName, Bucket, IoHash, Namespace};
@@ -34,7 +34,10 @@ impl RefKey {
     /// `BadName` with the least place at which the text breaks the rule: a byte that is no digit,
     /// 40 where the text is longer, or the text's length where it is shorter.
     pub fn parse(text: &str) -> Result<RefKey, BadName>
-        ensures { result ≡ key_of text.now }
+        ensures read { result ≡ key_of text.now }
+        ensures key { IfOk result (λ key. key.0 ≡ bytes_of text.now) }
+        ensures digits { OnOk result (digits_fault text.now ≡ None) }
+        ensures fault { IfErr result (λ fault. digits_fault text.now ≡ Some fault.at) }
     {
         if let Some(at) = find_fault(text.as_bytes()) {
             return Err(BadName { at });

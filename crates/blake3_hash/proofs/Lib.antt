@@ -1,0 +1,5 @@
+pub mod Joined
+pub mod Leaves
+pub mod Levels
+pub mod Held
+mod Bytes

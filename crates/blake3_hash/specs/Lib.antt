@@ -1,0 +1,2 @@
+pub mod Spine
+pub mod Fed

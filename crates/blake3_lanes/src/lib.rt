@@ -1,0 +1,16 @@
+//! BLAKE3 in hash mode (BLAKE3 specification), eight chunks at a time by `std::simd`. Each value is that of
+//! `blake3_hash`. No call takes memory.
+#![tactic(auto)]
+
+mod chunks;
+mod kernel;
+mod parents;
+mod vectors;
+mod wide;
+
+pub use chunks::chunks8;
+pub use parents::parents8;
+pub use wide::WideHasher;
+
+#[cfg(test)]
+mod tests;

@@ -1,0 +1,126 @@
+// A message taken in piece by piece, eight chunks at a time.
+ghost use Rattle.std.specs.Prelude.{◌≡◌, ℕ, ◌+◌, ◌-◌, ◌*◌, ◌/◌, ◌^◌, ◌<◌, ◌≤◌, ◌++◌, List, [], length};
+ghost use Rattle.tree_hash.specs.TreeHash.{blake3};
+ghost use Rattle.blake3_hash.specs.Spine.{IsPushed, leaves};
+ghost use Rattle.blake3_hash.specs.Fed.{IsHeld};
+ghost use Rattle.blake3_lanes.specs.WideFed.{IsWideFed, wide_length};
+
+use crate::chunks::chunks8;
+use blake3_hash::{Spine, chunk_value};
+use std::marker::Model;
+
+/// The hash of a message that is fed in pieces, computed eight chunks at a time. A clause speaks of the bytes fed by
+/// `IsWideFed`, and of their number by `wide_length`.
+#[derive(Drop)]
+pub struct WideHasher {
+    spine: Spine,
+    // The number of chunks on the spine.
+    chunks: u64,
+    // The last bytes fed, from a whole chunk on: empty only where no byte was fed.
+    buffer: [u8; 8192],
+    used: usize,
+}
+
+impl Model for WideHasher {
+    ghost use Rattle.std.specs.Prelude.{◌≡◌, ◌+◌, ◌*◌, ◌^◌, ◌<◌, ◌≤◌};
+    ghost use Rattle.blake3_lanes.specs.WideFed.{WideFed};
+
+    ghost Value = { WideFed };
+
+    ghost view = { λ h. record { spine = h.spine; buffer = h.buffer; used = h.used } };
+
+    ghost invariant = { λ h. (h.chunks ≡ h.spine.count) × (h.used ≤ 8192) × (1 ≤ h.spine.count → 1 ≤ h.used) × (1024 * h.spine.count + h.used < 2 ^ 64) };
+}
+
+impl WideHasher {
+    /// A hasher of the empty message.
+    pub fn new() -> WideHasher
+        ensures length { wide_length result ≡ 0 }
+        ensures fed { IsWideFed result [] }
+    {
+        WideHasher {
+            spine: Spine::new(),
+            chunks: 0,
+            buffer: [0; 8192],
+            used: 0,
+        }
+    }
+
+    /// Feeds the bytes behind those that were fed before.
+    pub fn update(&mut self, bytes: &[u8])
+        requires { wide_length self.old + length bytes.now < 2 ^ 64 }
+        ensures length { wide_length self.new ≡ wide_length self.old + length bytes.now }
+        ensures fed { (m : List ℕ) → IsWideFed self.old m → IsWideFed self.new (m ++ bytes.now) }
+    {
+        let used = self.used;
+        let room = 8192 - used;
+        if bytes.len() <= room {
+            self.buffer[used..used + bytes.len()].copy_from_slice(bytes);
+            self.used = used + bytes.len();
+            return;
+        }
+        if used == 0 {
+            self.used = absorb(&mut self.spine, &mut self.buffer, self.chunks, bytes);
+            self.chunks += chunks_of_groups(bytes.len());
+            return;
+        }
+        self.buffer[used..].copy_from_slice(&bytes[..room]);
+        push_values(&mut self.spine, &chunks8(&self.buffer, self.chunks));
+        self.chunks += 8;
+        let rest = &bytes[room..];
+        self.used = absorb(&mut self.spine, &mut self.buffer, self.chunks, rest);
+        self.chunks += chunks_of_groups(rest.len());
+    }
+
+    /// The hash of the bytes fed.
+    pub fn finish(&self) -> [u8; 32]
+        ensures { (m : List ℕ) → IsWideFed self.now m → result ≡ blake3 m }
+    {
+        let mut spine = self.spine;
+        let whole = self.used.saturating_sub(1) / 1024;
+        'others: for k in 0..whole {
+            let chunk = &self.buffer[1024 * k..1024 * k + 1024];
+            spine.push(&chunk_value(chunk, self.chunks + k as u64));
+        }
+        spine.finish(&self.buffer[1024 * whole..self.used])
+    }
+}
+
+// How many chunks the groups of eight have that come before the last 1 to 8,192 of `len` bytes.
+fn chunks_of_groups(len: usize) -> u64
+    requires { 1 ≤ len }
+    ensures { result ≡ 8 * ((len - 1) / 8192) }
+{
+    8 * ((len - 1) / 8192) as u64
+}
+
+fn push_values(spine: &mut Spine, values: &[[u32; 8]; 8])
+    requires { spine.old.count < 2 ^ 54 - 8 }
+    ensures count { spine.new.count ≡ spine.old.count + 8 }
+    ensures pushed { (xs : List (List ℕ)) → IsPushed spine.old xs → IsPushed spine.new (xs ++ values.now) }
+{
+    'each: for value in values {
+        spine.push(value);
+    }
+}
+
+// Takes in bytes behind `number` whole chunks: all but the last 1 to 8,192 go on the spine, and these go to the front
+// of the buffer. Gives their number.
+fn absorb(spine: &mut Spine, buffer: &mut [u8; 8192], number: u64, bytes: &[u8]) -> usize
+    requires number { number ≡ spine.old.count }
+    requires some { 1 ≤ length bytes.now }
+    requires room { 1024 * spine.old.count + length bytes.now < 2 ^ 64 }
+    ensures used { result ≡ length bytes.now - 8192 * ((length bytes.now - 1) / 8192) }
+    ensures count { spine.new.count ≡ spine.old.count + 8 * ((length bytes.now - 1) / 8192) }
+    ensures held { (m : List ℕ) → 1024 * spine.old.count ≡ length m → IsPushed spine.old (leaves spine.old.count m 0)
+        → IsHeld spine.new.levels spine.new.count buffer.new result (m ++ bytes.now) }
+{
+    let groups = (bytes.len() - 1) / 8192;
+    'groups: for k in 0..groups {
+        let values = chunks8(&bytes[8192 * k..8192 * k + 8192], number + 8 * k as u64);
+        push_values(spine, &values);
+    }
+    let tail = &bytes[8192 * groups..];
+    buffer[..tail.len()].copy_from_slice(tail);
+    tail.len()
+}

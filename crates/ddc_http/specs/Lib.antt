@@ -1,0 +1,4 @@
+pub mod Heads
+pub mod Values
+pub mod Reader
+pub mod Stream

@@ -1,0 +1,128 @@
+-- What one call of the reader does to the bytes ahead of it.
+use Rattle.std.specs.Prelude.{◌≡◌, ◌⊎◌, ℕ, ◌+◌, ◌-◌, ◌^◌, ◌≤◌, ◌<◌, min, Bool, true, false, List, [], ◌∷◌, ◌++◌, length, take, drop, Option, Some, None, IfSome, Result, Ok, Err, ⊤}
+use Rattle.std.specs.Io.{StartsWith}
+use Rattle.std.specs.Io.KnownBytes.{Consumes, Keeps, IsAtEnd}
+use Rattle.httparse.specs.Grammar.{RequestHead, IsRequestHead, print_request, HasNoRequest}
+use Rattle.httparse.specs.Spans.{RequestOverflows}
+use Rattle.ddc_protocol.specs.declared.form.Form.{Form}
+use Rattle.ddc_names.specs.declared.hash.IoHash.{IoHash}
+use Rattle.ddc_protocol.specs.declared.form.Form.TheVariants.{Put}
+use Rattle.ddc_protocol.specs.Form.{form_of}
+use Rattle.ddc_protocol.specs.Requests.{IsHead, HasNoHead, NeverHasHead, body_length, Item, item_of, put, get, mismatch, Spells, IsUnread, IsCut, HasNoItem}
+use Rattle.ddc_http.specs.declared.head.Found.{Found}
+use Rattle.ddc_http.specs.declared.head.Found.TheVariants.{More, Never, Head}
+use Rattle.ddc_http.specs.declared.request.Ask.{Ask}
+use Rattle.ddc_http.specs.declared.request.Ask.TheVariants.{PutBlob, GetBlob}
+use Rattle.ddc_http.specs.declared.request.Request.{Request}
+use Rattle.ddc_http.specs.declared.request.HttpFault.{HttpFault}
+use Rattle.ddc_http.specs.declared.request.HttpFault.TheVariants.{Unread, Cut, HashMismatch, ReadFailed, NoMemory}
+
+-- the bytes begin with a head of this length, which asks for this
+pub record HeadAt (bytes : List ℕ) (len : ℕ) (found : Option Form) : Type 0 where
+  pub head : RequestHead
+  pub is_head : IsHead head
+  pub spelled : bytes ≡ print_request head ++ drop len bytes
+  pub long : len ≡ length (print_request head)
+  pub within : len ≤ length bytes
+  pub asks : found ≡ form_of head
+
+-- the same of a window, whose length bounds the head's
+pub record HeadOf (window : List ℕ) (len : ℕ) (found : Option Form) : Type 0 where
+  pub head : RequestHead
+  pub valid : IsRequestHead head
+  pub few : length head.fields ≤ 64
+  pub spelled : window ≡ print_request head ++ drop len window
+  pub long : len ≡ length (print_request head)
+  pub within : len ≤ length window
+  pub asks : found ≡ form_of head
+
+-- what the search for a head says of a window of at most 16,384 bytes
+abbrev pub FindsIn : List ℕ → Found → Type 0
+FindsIn window More = HasNoRequest window
+FindsIn window Never = RequestOverflows 64 window
+FindsIn window (Head len asks) = HeadOf window len asks
+
+-- and of all the bytes
+abbrev pub Finds : List ℕ → Found → Type 0
+Finds bytes More = HasNoHead bytes × (length bytes < 16384)
+Finds bytes Never = NeverHasHead bytes
+Finds bytes (Head len asks) = HeadAt bytes len asks
+
+-- the item that a request is
+abbrev pub asked : Request → Item
+asked request = asks request.ask
+  where
+    asks : Ask → Item
+    asks (PutBlob space blob) = put space blob
+    asks (GetBlob space hash) = get space hash
+
+-- a front of the bytes is a whole request
+abbrev pub HasItem : List ℕ → Type 0
+HasItem bytes = (item : Item) × (text : List ℕ) × (rest : List ℕ) × Spells text item × (bytes ≡ text ++ rest)
+
+-- the place behind a text, which stands still at the end of its type
+abbrev pub place_behind : ℕ → List ℕ → ℕ
+place_behind place text = min (place + length text) (2 ^ 64 - 1)
+
+-- the bytes ahead lost the text of this item, and the place is the one behind it
+abbrev pub Takes : Option (List ℕ) → Option (List ℕ) → ℕ → ℕ → Item → Type 0
+Takes before after from to item = (text : List ℕ) × Spells text item × Consumes before after text × (to ≡ place_behind from text)
+
+-- what was taken of the bytes ahead is no whole request
+abbrev pub LosesPart : Option (List ℕ) → Option (List ℕ) → Type 0
+LosesPart before left = (part : List ℕ) × Consumes before left part × HasNoItem part
+
+-- one more piece: the bytes ahead stay, and more of them are held, or the source is at its end
+abbrev pub FillsAs : Option (List ℕ) → Option (List ℕ) → Option (List ℕ) → List ℕ → List ℕ → Result Bool HttpFault → Type 0
+FillsAs before after left old new (Ok true) = Keeps before after × StartsWith new old
+FillsAs before after left old new (Ok false) = Keeps before after × IsAtEnd left × (new ≡ old)
+FillsAs before after left old new (Err ReadFailed) = Keeps before after × (new ≡ old)
+FillsAs before after left old new (Err NoMemory) = ⊤
+FillsAs before after left old new (Err Unread) = ⊥
+FillsAs before after left old new (Err Cut) = ⊥
+FillsAs before after left old new (Err (HashMismatch named found)) = ⊥
+
+-- the head at the front of what is held, or why there is none
+abbrev pub HeadsAs : Option (List ℕ) → Option (List ℕ) → Option (List ℕ) → List ℕ → Result (Option (ℕ × Form)) HttpFault → Type 0
+HeadsAs before after left held (Ok (Some found)) = Keeps before after × HeadAt held found.0 (Some found.1)
+HeadsAs before after left held (Ok None) = IfSome before (λ bytes. bytes ≡ []) × IsAtEnd left
+HeadsAs before after left held (Err Unread) = IfSome before IsUnread
+HeadsAs before after left held (Err Cut) = IfSome before IsCut
+HeadsAs before after left held (Err ReadFailed) = LosesPart before left
+HeadsAs before after left held (Err NoMemory) = ⊤
+HeadsAs before after left held (Err (HashMismatch named found)) = ⊥
+
+-- the bytes begin with a head of this length, behind which a body of so many bytes stands
+pub record BodyAt (bytes : List ℕ) (len size : ℕ) : Type 0 where
+  pub form : Form
+  pub head_at : HeadAt bytes len (Some form)
+  pub states : size ≡ body_length form
+
+-- the whole body behind the head, or why it isn't there
+abbrev pub BodyAs : Option (List ℕ) → Option (List ℕ) → Option (List ℕ) → List ℕ → ℕ → ℕ → Result (List ℕ) HttpFault → Type 0
+BodyAs before after left held len size (Ok body) = Consumes before after (take len held ++ body) × (length body ≡ size)
+BodyAs before after left held len size (Err Cut) = IfSome before IsCut
+BodyAs before after left held len size (Err ReadFailed) = LosesPart before left
+BodyAs before after left held len size (Err NoMemory) = ⊤
+BodyAs before after left held len size (Err Unread) = ⊥
+BodyAs before after left held len size (Err (HashMismatch named found)) = ⊥
+
+-- a body is a request where it has the hash named
+abbrev pub StoresAs : List ℕ → IoHash → List ℕ → Result (Option Request) HttpFault → Type 0
+StoresAs space named body (Ok (Some request)) = item_of (Put space named (length body)) body ≡ asked request
+StoresAs space named body (Ok None) = ⊥
+StoresAs space named body (Err (HashMismatch expected found)) = item_of (Put space named (length body)) body ≡ mismatch expected found
+StoresAs space named body (Err Unread) = ⊥
+StoresAs space named body (Err Cut) = ⊥
+StoresAs space named body (Err ReadFailed) = ⊥
+StoresAs space named body (Err NoMemory) = ⊥
+
+-- what a call answered, by the bytes ahead before and after it, what the source has left, and the places
+abbrev pub Answers : Option (List ℕ) → Option (List ℕ) → Option (List ℕ) → ℕ → ℕ → Result (Option Request) HttpFault → Type 0
+Answers before after left from to (Ok (Some request)) = Takes before after from to (asked request)
+Answers before after left from to (Ok None) = IfSome before (λ bytes. bytes ≡ []) × IsAtEnd left × (to ≡ from)
+Answers before after left from to (Err Unread) = IfSome before IsUnread × (to ≡ from)
+Answers before after left from to (Err Cut) = IfSome before IsCut × (to ≡ from)
+Answers before after left from to (Err (HashMismatch named found)) = Takes before after from to (mismatch named found)
+Answers before after left from to (Err ReadFailed) = LosesPart before left × (to ≡ from)
+Answers before after left from to (Err NoMemory) = ⊤

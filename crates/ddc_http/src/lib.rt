@@ -1,0 +1,19 @@
+//! Requests read from a stream, and replies written to one.
+#![tactic(auto)]
+
+mod fields;
+mod form;
+mod head;
+mod reader;
+mod reply;
+#[cfg(test)]
+mod reply_tests;
+mod request;
+mod stream;
+
+pub use reply::{
+    ErrorCode, Head, Kind, WriteFault, error_body, identifier_body, mismatch_body, status_phrases,
+    write_head,
+};
+pub use request::{Ask, HttpFault, Request};
+pub use stream::RequestReader;

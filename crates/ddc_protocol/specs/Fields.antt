@@ -1,0 +1,23 @@
+-- The fields of a request head (RFC 9110, section 5), as pairs of a name and a value.
+use Rattle.std.specs.Prelude.{ℕ, Bool, ◌&&◌, List, [], ◌∷◌, length, map, Option, Some, None, if◌then◌else◌, nat_eq, nat_le}
+use lib.Pointwise.{pointwise}
+use Rattle.std.specs.Char.{to_ascii_lowercase}
+use Rattle.std.specs.Str.{all_ascii_digits}
+use Rattle.std.specs.Str.Parse.{digits_value}
+
+-- the two texts are one
+abbrev pub same_text : List ℕ → List ℕ → Bool
+same_text a b = pointwise nat_eq a b
+
+-- the two names are one, without case
+abbrev pub same_name : List ℕ → List ℕ → Bool
+same_name a b = same_text (map to_ascii_lowercase a) (map to_ascii_lowercase b)
+
+-- the values of the fields of a name, in order
+abbrev pub values_of : List ℕ → List (List ℕ × List ℕ) → List (List ℕ)
+values_of name [] = []
+values_of name (field ∷ fields) = if same_name field.0 name then field.1 ∷ values_of name fields else values_of name fields
+
+-- the number that 1 to 19 digits write
+abbrev pub number : List ℕ → Option ℕ
+number text = if nat_le 1 (length text) && nat_le (length text) 19 && all_ascii_digits text then Some (digits_value 10 text) else None

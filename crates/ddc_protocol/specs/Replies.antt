@@ -1,0 +1,58 @@
+-- The texts of replies (RFC 9112, section 4, and RFC 8259).
+use Rattle.std.specs.Prelude.{ℕ, Bool, true, false, List, [], ◌++◌, length, Option, Some, None, unwrap_or, codes, decimal}
+use Rattle.http.specs.StatusCode.{reason_phrase}
+use Rattle.ddc_names.specs.declared.hash.IoHash.{IoHash}
+use Rattle.ddc_names.specs.Names.{hash_text}
+
+-- `HTTP/1.1`, the status with its phrase of RFC 9110, and the type of the body
+unfoldable pub opening_text : ℕ → List ℕ → List ℕ → List ℕ
+opening_text status phrase kind = codes "HTTP/1.1 " ++ decimal status ++ codes " " ++ phrase ++ codes "\r\nContent-Type: " ++ kind ++ codes "\r\n"
+
+-- the hash of the body, where the reply names one
+unfoldable pub hash_line : Option IoHash → List ℕ
+hash_line None = []
+hash_line (Some hash) = codes "X-Jupiter-IoHash: " ++ hash_text hash ++ codes "\r\n"
+
+unfoldable pub close_line : Bool → List ℕ
+close_line true = codes "Connection: close\r\n"
+close_line false = []
+
+-- the length of the body in bytes, whether the server closes, and the empty line
+unfoldable pub ending_text : ℕ → List ℕ → List ℕ
+ending_text size close = codes "Content-Length: " ++ decimal size ++ codes "\r\n" ++ close ++ codes "\r\n"
+
+-- the head of a reply
+unfoldable pub head_text : ℕ → List ℕ → Option IoHash → ℕ → Bool → List ℕ
+head_text status kind hash size close =
+    opening_text status (unwrap_or (reason_phrase status) []) kind ++ hash_line hash ++ ending_text size (close_line close)
+
+abbrev pub json : List ℕ
+json = codes "application/json"
+
+abbrev pub octets : List ℕ
+octets = codes "application/octet-stream"
+
+-- a reply with a body in JSON
+abbrev pub json_reply : ℕ → List ℕ → Bool → List ℕ
+json_reply status body close = head_text status json None (length body) close ++ body
+
+-- a reply with the bytes of a blob
+abbrev pub blob_reply : IoHash → List ℕ → Bool → List ℕ
+blob_reply hash bytes close = head_text 200 octets (Some hash) (length bytes) close ++ bytes
+
+-- the body that names what was stored
+abbrev pub identifier_body : IoHash → List ℕ
+identifier_body hash = codes "{\"identifier\":\"" ++ hash_text hash ++ codes "\"}"
+
+-- the body of a refusal
+abbrev pub error_body : List ℕ → List ℕ
+error_body code = codes "{\"error\":\"" ++ code ++ codes "\"}"
+
+-- the body for a blob whose bytes have another hash than the one expected
+abbrev pub mismatch_body : IoHash → IoHash → List ℕ
+mismatch_body expected found =
+    codes "{\"error\":\"hash_mismatch\",\"found\":\"" ++ hash_text found ++ codes "\",\"named\":\"" ++ hash_text expected ++ codes "\"}"
+
+-- the reply to a request that isn't read
+abbrev pub unread_reply : List ℕ
+unread_reply = json_reply 400 (error_body (codes "unread")) true

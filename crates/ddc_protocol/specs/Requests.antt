@@ -1,0 +1,112 @@
+-- How a list of bytes is cut into requests (RFC 9112, section 2), up to the end of a stream.
+use Rattle.std.specs.Prelude.{◌≡◌, ◌⊎◌, ℕ, ◌<◌, ◌≤◌, ◌+◌, List, [], ◌∷◌, ◌++◌, length, Option, Some, None, if◌then◌else◌}
+use Rattle.httparse.specs.Grammar.{RequestHead, IsRequestHead, print_request}
+use Rattle.ddc_names.specs.declared.hash.IoHash.{IoHash}
+use Rattle.tree_hash.specs.TreeHash.{io}
+use Rattle.ddc_protocol.specs.declared.form.Form.{Form}
+use Rattle.ddc_protocol.specs.declared.form.Form.TheVariants.{Put, Get}
+use Rattle.ddc_protocol.specs.Fields.{same_text}
+use Rattle.ddc_protocol.specs.Form.{form_of}
+
+-- a head of at most 64 fields and 16,384 bytes
+pub record IsHead (head : RequestHead) : Type 0 where
+  pub valid : IsRequestHead head
+  pub few : length head.fields ≤ 64
+  pub short : length (print_request head) ≤ 16384
+
+-- no front of the bytes is a head
+abbrev pub HasNoHead : List ℕ → Type 0
+HasNoHead bytes = (head : RequestHead) (rest : List ℕ) → IsHead head → bytes ≡ print_request head ++ rest → ⊥
+
+-- nor can one become of them, whatever follows
+abbrev pub NeverHasHead : List ℕ → Type 0
+NeverHasHead bytes = (more : List ℕ) → HasNoHead (bytes ++ more)
+
+-- how many bytes follow the head
+abbrev pub body_length : Form → ℕ
+body_length (Put space hash size) = size
+body_length (Get space hash) = 0
+
+-- the hash that names these bytes
+abbrev pub named : List ℕ → IoHash
+named bytes = record { 0 = io bytes }
+
+-- what is answered before the next request is read: a blob to store or to fetch, or a body that
+-- has another hash than the one that was named
+pub data Item : Type 0 where
+  put : (space bytes : List ℕ) → Item
+  get : (space : List ℕ) (hash : IoHash) → Item
+  mismatch : (expected found : IoHash) → Item
+
+-- a body is stored only under its own hash
+abbrev pub item_of : Form → List ℕ → Item
+item_of (Put space hash size) body = if same_text (io body) hash.0 then put space body else mismatch hash (named body)
+item_of (Get space hash) body = get space hash
+
+-- the text is one whole request, and the item is what it asks
+pub record Spells (text : List ℕ) (item : Item) : Type 0 where
+  pub head : RequestHead
+  pub form : Form
+  pub body : List ℕ
+  pub is_head : IsHead head
+  pub asks : form_of head ≡ Some form
+  pub whole : length body ≡ body_length form
+  pub spelled : text ≡ print_request head ++ body
+  pub same : item ≡ item_of form body
+
+-- the bytes begin with a head that is of no form
+pub record HasNoForm (bytes : List ℕ) : Type 0 where
+  pub head : RequestHead
+  pub rest : List ℕ
+  pub is_head : IsHead head
+  pub spelled : bytes ≡ print_request head ++ rest
+  pub asks : form_of head ≡ None
+
+-- the bytes end inside a body
+pub record LacksBody (bytes : List ℕ) : Type 0 where
+  pub head : RequestHead
+  pub form : Form
+  pub rest : List ℕ
+  pub is_head : IsHead head
+  pub asks : form_of head ≡ Some form
+  pub spelled : bytes ≡ print_request head ++ rest
+  pub lacks : length rest < body_length form
+
+-- bytes at which the server gives up: a head of no form, or bytes of which no head can become
+abbrev pub IsUnread : List ℕ → Type 0
+IsUnread bytes = NeverHasHead bytes ⊎ HasNoForm bytes
+
+-- bytes that end inside a request
+abbrev pub IsCut : List ℕ → Type 0
+IsCut bytes = ((0 < length bytes) × HasNoHead bytes) ⊎ LacksBody bytes
+
+-- no front is a whole request
+abbrev pub HasNoItem : List ℕ → Type 0
+HasNoItem bytes = (item : Item) (text rest : List ℕ) → Spells text item → bytes ≡ text ++ rest → ⊥
+
+-- the bytes are the texts of these items, and then the rest
+abbrev pub Begins : List ℕ → List Item → List ℕ → Type 0
+Begins bytes [] rest = bytes ≡ rest
+Begins bytes (item ∷ items) rest = (text : List ℕ) × (tail : List ℕ) × (bytes ≡ text ++ tail) × Spells text item × Begins tail items rest
+
+-- how a stream ends: between two requests, inside one, at one that isn't read, or with the last that is answered
+pub data End : Type 0 where
+  closed cut unread spent : End
+
+-- the most items of one stream
+abbrev pub most_items : ℕ
+most_items = 10000
+
+-- the rest behind so many items is this end
+abbrev pub EndsAs : ℕ → List ℕ → End → Type 0
+EndsAs count rest closed = (count < most_items) × (rest ≡ [])
+EndsAs count rest cut = (count < most_items) × IsCut rest
+EndsAs count rest unread = (count < most_items) × IsUnread rest
+EndsAs count rest spent = count ≡ most_items
+
+-- a stream of these bytes has these items, and this end behind `at` bytes
+pub record Cuts (bytes : List ℕ) (items : List Item) (at : ℕ) (end : End) : Type 0 where
+  pub rest : List ℕ
+  pub begins : Begins bytes items rest
+  pub place : at + length rest ≡ length bytes
+  pub ends : EndsAs (length items) rest end

@@ -1,0 +1,5 @@
+pub mod Laws
+pub mod Facts
+pub mod Worked
+mod Bytes
+mod Rounds
