@@ -1,6 +1,6 @@
 //! The object that lists hashes that are needed.
 
-ghost use Rattle.std.specs.Prelude.{◌≡◌, ℕ, ◌+◌, ◌<◌, ◌≤◌, [], ◌++◌, ◌∷◌, IfOk, OnOk, length};
+ghost use Rattle.std.specs.Prelude.{◌≡◌, ◌≤◌, [], ◌++◌, ◌∷◌, IfOk, OnOk, length};
 ghost use Rattle.cb_fields.specs.Language.{IsObject};
 ghost use Rattle.cb_fields.specs.Needs.{AreHashes, joined, lead, minimal, needs_field, needs_object, width, with_size};
 
