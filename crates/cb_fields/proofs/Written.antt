@@ -70,6 +70,10 @@ top_object f small s =
     let one_field : Spells (Whole any_fields) f [] = (let m : Spells (Whole any_fields) (f ++ []) [] = more {contents = any_fields} f [] [] [] refl s (none refl) in rw append-nil at m) in
     record { code = refl; field = container (0x02 ∷ []) (minimal (length f)) f any_fields (typed {t = 0x02} [] refl) (fields {xs = f} (minimal (length f)) (minimal_spells (length f) small)) one_field }
 
+pub hashes_append : (hs gs : List IoHash) → AreHashes hs → AreHashes gs → AreHashes (hs ++ gs)
+hashes_append [] gs a b = b
+hashes_append (h ∷ hs) gs a b = (a.0, hashes_append hs gs a.1 b)
+
 few_hashes : (hs : List IoHash) → AreHashes hs → length hs ≤ length (joined hs)
 few_hashes [] a = omega arith
 few_hashes (h ∷ hs) a = rw length-append (omega (arith, a.0, few_hashes hs a.1))

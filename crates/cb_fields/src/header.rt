@@ -1,4 +1,5 @@
-//! What stands at the front of the bytes that are left of a container.
+//! What stands at the front of the bytes that are left of a container. What each field goes through is
+//! inlined into the walk's step.
 
 ghost use Rattle.std.specs.Prelude.{◌≡◌, ℕ, ◌+◌, ◌^◌, ◌<◌, ◌≤◌, length, IfSome};
 ghost use Rattle.cb_fields.specs.Form.{fewer, rests};
@@ -184,6 +185,7 @@ fn inside_of(form: Form, bytes: &[u8]) -> Header
     }
 }
 
+// A container's payload: its size, and its inside.
 #[inline(never)]
 fn container_of(form: Form, bytes: &[u8]) -> Header
     ensures value { result ≡ container_header form bytes.now (sized bytes.now) }
@@ -199,6 +201,7 @@ fn container_of(form: Form, bytes: &[u8]) -> Header
     }
 }
 
+// The payload of a form.
 #[tactic(auto, unfolding(crate::specs::Header::payload))]
 #[inline(always)]
 fn payload_of(form: Form, bytes: &[u8]) -> Header

@@ -1,7 +1,8 @@
 //! The object that lists hashes that are needed.
 
-ghost use Rattle.std.specs.Prelude.{◌≡◌, ℕ, ◌+◌, ◌<◌, ◌≤◌, ◌++◌, ◌∷◌, IfOk, OnOk, length};
-ghost use Rattle.cb_fields.specs.Needs.{joined, lead, minimal, needs_field, needs_object, width, with_size};
+ghost use Rattle.std.specs.Prelude.{◌≡◌, ◌≤◌, [], ◌++◌, ◌∷◌, IfOk, OnOk, length};
+ghost use Rattle.cb_fields.specs.Language.{IsObject};
+ghost use Rattle.cb_fields.specs.Needs.{AreHashes, joined, lead, minimal, needs_field, needs_object, width, with_size};
 
 use ddc_names::{ByteList, IoHash, NoMemory};
 use std::alloc::{AllocError, Global};
@@ -79,22 +80,33 @@ fn push_sized(out: &mut Vec<u8>, bytes: &[u8]) -> Result<(), AllocError>
     Ok(())
 }
 
+// Writes the 20 bytes of a hash.
+fn push_hash(out: &mut Vec<u8>, hash: &IoHash) -> Result<(), AllocError>
+    ensures bytes { OnOk result (out.new.items ≡ out.old.items ++ hash.now.0) }
+    ensures count { OnOk result (length hash.now.0 ≡ 20) }
+{
+    out.extend_from_slice(&hash.0)?;
+    Ok(())
+}
+
 // The count, the type byte of hashes, and the hashes.
 fn listed(alloc: Global, hashes: &[IoHash]) -> Result<Vec<u8>, AllocError>
-    ensures { IfOk result (λ v. v.items ≡ minimal (length hashes.now) ++ 0x10 ∷ joined hashes.now) }
+    ensures bytes { IfOk result (λ v. v.items ≡ minimal (length hashes.now) ++ 0x10 ∷ joined hashes.now) }
+    ensures hashes { OnOk result (AreHashes hashes.now) }
 {
     let mut out = Vec::new(alloc);
     push_varuint(&mut out, hashes.len() as u64)?;
     out.push(0x10)?;
     for hash in hashes {
-        out.extend_from_slice(&hash.0)?;
+        push_hash(&mut out, hash)?;
     }
     Ok(out)
 }
 
 // The one field of the object.
 fn field_of(alloc: Global, hashes: &[IoHash]) -> Result<Vec<u8>, AllocError>
-    ensures { IfOk result (λ v. v.items ≡ needs_field hashes.now) }
+    ensures bytes { IfOk result (λ v. v.items ≡ needs_field hashes.now) }
+    ensures hashes { OnOk result (AreHashes hashes.now) }
 {
     let mut out = Vec::new(alloc);
     if hashes.is_empty() {
@@ -107,8 +119,10 @@ fn field_of(alloc: Global, hashes: &[IoHash]) -> Result<Vec<u8>, AllocError>
     Ok(out)
 }
 
+// The object of that field.
 fn object_of(alloc: Global, hashes: &[IoHash]) -> Result<Vec<u8>, AllocError>
-    ensures { IfOk result (λ v. v.items ≡ needs_object hashes.now) }
+    ensures bytes { IfOk result (λ v. v.items ≡ needs_object hashes.now) }
+    ensures hashes { OnOk result (AreHashes hashes.now) }
 {
     let field = field_of(alloc, hashes)?;
     let mut out = Vec::new(alloc);
@@ -120,7 +134,8 @@ fn object_of(alloc: Global, hashes: &[IoHash]) -> Result<Vec<u8>, AllocError>
 /// The object without a name whose one field, named `needs`, lists the hashes in the order given: a
 /// UniformArray of Hash, and for no hashes an Array without fields. All its VarUInts are the shortest.
 pub fn write_needs(alloc: Global, hashes: &[IoHash]) -> Result<ByteList, NoMemory>
-    ensures { IfOk result (λ bytes. bytes ≡ needs_object hashes.now) }
+    ensures bytes { IfOk result (λ bytes. bytes ≡ needs_object hashes.now) }
+    ensures object { IfOk result (λ bytes. IsObject bytes []) }
 {
     match object_of(alloc, hashes) {
         Ok(bytes) => Ok(ByteList::of_vec(bytes)),

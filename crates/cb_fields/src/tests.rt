@@ -48,10 +48,11 @@ fn objects_have_their_links(rt: HostRuntime) -> Result<(), Fail> {
         hash: HASH,
     };
     let twice = b"\x02\x2a\x0fabcdefghijklmnopqrst\x0fabcdefghijklmnopqrst";
-    assert_eq!(rt;
-        links_of(rt.alloc(), b"\x02\x00")?.as_slice(),
-        [].as_slice()
-    );
+    assert_eq!(rt; links_of(rt.alloc(), b"\x02\x00")?.len(), 0);
+    // a uniform array of 2^63 Nulls
+    let nulls = b"\x02\x0c\x05\x0a\xff\x80\x00\x00\x00\x00\x00\x00\x00\x01";
+    assert_eq!(rt; place(rt.alloc(), nulls)?, None);
+    assert_eq!(rt; links_of(rt.alloc(), nulls)?.len(), 0);
     assert_eq!(rt;
         links_of(rt.alloc(), twice)?.as_slice(),
         [binary, binary].as_slice()

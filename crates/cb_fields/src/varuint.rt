@@ -1,6 +1,6 @@
 //! Numbers of one to nine bytes (VarUInt).
 
-ghost use Rattle.std.specs.Prelude.{◌≡◌, ℕ, ◌+◌, ◌*◌, ◌^◌, ◌<◌, ◌≤◌, ◌∷◌, length, IfSome};
+ghost use Rattle.std.specs.Prelude.{◌≡◌, ◌+◌, ◌*◌, ◌^◌, ◌<◌, ◌≤◌, ◌∷◌, length, IfSome};
 ghost use Rattle.cb_fields.specs.Varuint.{followers, marked, spelled, varuint_at};
 
 // How many bytes follow the first: as many as it has leading 1 bits.
@@ -71,7 +71,7 @@ fn spell(high: u64, bytes: &[u8]) -> u64
     }
 }
 
-// The same where bytes follow the first.
+// A number whose first byte others follow.
 #[inline(never)]
 fn read_long(first: u8, rest: &[u8]) -> Option<(u64, usize)>
     ensures value { result ≡ varuint_at (first ∷ rest.now) }

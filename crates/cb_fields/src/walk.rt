@@ -1,7 +1,6 @@
 //! The walk over the fields of an object from left to right, with the containers that are open.
 
-ghost use Rattle.std.specs.Prelude.{◌≡◌, ℕ, ◌≤◌, ◌-◌, ◌++◌, [], length, drop};
-ghost use Rattle.cb_fields.specs.Form.{counted};
+ghost use Rattle.std.specs.Prelude.{◌≡◌, [], length};
 ghost use Rattle.cb_fields.specs.Language.{link};
 ghost use Rattle.cb_fields.specs.Walk.{InBounds, Carries, Advances};
 
