@@ -5,6 +5,8 @@ mod fields;
 mod form;
 mod head;
 mod reader;
+#[cfg(test)]
+mod reader_tests;
 mod reply;
 #[cfg(test)]
 mod reply_tests;
