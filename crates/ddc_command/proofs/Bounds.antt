@@ -20,9 +20,9 @@ chosen false x y p q = q
 within : (size : Option ℕ) → IfSome (within_limit size) (λ n. n ≤ most_bytes)
 within None = tt
 within (Some n) = elim (nat_le n most_bytes) as (λ b. nat_le n most_bytes ≡ b → IfSome (cond b (Some n) None) (λ m. m ≤ most_bytes)) [
-      | true ↦ λ e. grind (arith, nat_tests)
-      | false ↦ λ e. tt
-    ] refl
+  | true ↦ λ e. grind (arith, nat_tests)
+  | false ↦ λ e. tt
+] refl
 
 put_length-short : (values : List (List ℕ)) → IfSome (put_length values) (λ n. n ≤ most_bytes)
 put_length-short [] = tt

@@ -135,8 +135,7 @@ ends input ahead now left old mid new store at next count from to close WriteFai
     let texts : replies 0 store s.items ++ reply close at item ≡ replies 0 store items = replies_more s.items item store at close count last k e in
     let begins = begins_snoc s.items item (s.front ++ text) text [] (subst (λ (r : List ℕ). Begins (s.front ++ text) s.items r) (sym (append-nil text)) (begins_more s.items s.front [] text s.begins)) spells in
     let long = length-append s.items (item ∷ []) in
-    let P : List ℕ → Type 0 = λ t. AppendsFront old new t in
-    (
+    let P : List ℕ → Type 0 = λ t. AppendsFront old new t in (
       items,
       omega arith,
       inl (

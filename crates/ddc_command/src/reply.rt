@@ -21,7 +21,12 @@ use io_hash::Whole;
 use std::alloc::Global;
 
 // Writes a head and its body.
-fn write_reply<W: Sink>(alloc: Global, sink: &mut W, head: &Head, body: &[u8]) -> Result<(), WriteFault>
+fn write_reply<W: Sink>(
+    alloc: Global,
+    sink: &mut W,
+    head: &Head,
+    body: &[u8],
+) -> Result<(), WriteFault>
     requires { IsSome (reason_phrase head.now.status) }
     ensures gives { WritesAs (W.written sink.old) (W.written sink.new) (W.faults sink.old) (W.faults sink.new) (text_of head.now ++ body.now) result }
 {
@@ -35,7 +40,13 @@ fn write_reply<W: Sink>(alloc: Global, sink: &mut W, head: &Head, body: &[u8]) -
     }
 }
 
-fn write_json<W: Sink>(alloc: Global, sink: &mut W, status: u16, body: &[u8], close: bool) -> Result<(), WriteFault>
+fn write_json<W: Sink>(
+    alloc: Global,
+    sink: &mut W,
+    status: u16,
+    body: &[u8],
+    close: bool,
+) -> Result<(), WriteFault>
     requires { IsSome (reason_phrase status) }
     ensures gives { WritesAs (W.written sink.old) (W.written sink.new) (W.faults sink.old) (W.faults sink.new) (json_reply status body.now close) result }
 {
@@ -49,7 +60,13 @@ fn write_json<W: Sink>(alloc: Global, sink: &mut W, status: u16, body: &[u8], cl
     write_reply(alloc, sink, &head, body)
 }
 
-fn write_blob<W: Sink>(alloc: Global, sink: &mut W, hash: IoHash, bytes: &[u8], close: bool) -> Result<(), WriteFault>
+fn write_blob<W: Sink>(
+    alloc: Global,
+    sink: &mut W,
+    hash: IoHash,
+    bytes: &[u8],
+    close: bool,
+) -> Result<(), WriteFault>
     ensures gives { WritesAs (W.written sink.old) (W.written sink.new) (W.faults sink.old) (W.faults sink.new) (blob_reply hash bytes.now close) result }
 {
     let head = Head {
@@ -62,7 +79,13 @@ fn write_blob<W: Sink>(alloc: Global, sink: &mut W, hash: IoHash, bytes: &[u8], 
     write_reply(alloc, sink, &head, bytes)
 }
 
-fn refuse<W: Sink>(alloc: Global, sink: &mut W, status: u16, code: ErrorCode, close: bool) -> Result<(), WriteFault>
+fn refuse<W: Sink>(
+    alloc: Global,
+    sink: &mut W,
+    status: u16,
+    code: ErrorCode,
+    close: bool,
+) -> Result<(), WriteFault>
     requires { IsSome (reason_phrase status) }
     ensures gives { WritesAs (W.written sink.old) (W.written sink.new) (W.faults sink.old) (W.faults sink.new) (refusal status (code_text code) close) result }
 {
@@ -72,7 +95,12 @@ fn refuse<W: Sink>(alloc: Global, sink: &mut W, status: u16, code: ErrorCode, cl
     }
 }
 
-fn write_identifier<W: Sink>(alloc: Global, sink: &mut W, hash: IoHash, close: bool) -> Result<(), WriteFault>
+fn write_identifier<W: Sink>(
+    alloc: Global,
+    sink: &mut W,
+    hash: IoHash,
+    close: bool,
+) -> Result<(), WriteFault>
     ensures gives { WritesAs (W.written sink.old) (W.written sink.new) (W.faults sink.old) (W.faults sink.new) (json_reply 200 (identifier_body hash) close) result }
 {
     match identifier_body(alloc, &hash) {
@@ -140,7 +168,13 @@ pub fn answer<W: Sink>(
 }
 
 /// Answers a body that has the hash `found` where the request named `expected`.
-pub fn answer_mismatch<W: Sink>(alloc: Global, expected: IoHash, found: IoHash, close: bool, sink: &mut W) -> Result<(), WriteFault>
+pub fn answer_mismatch<W: Sink>(
+    alloc: Global,
+    expected: IoHash,
+    found: IoHash,
+    close: bool,
+    sink: &mut W,
+) -> Result<(), WriteFault>
     ensures gives { WritesAs (W.written sink.old) (W.written sink.new) (W.faults sink.old) (W.faults sink.new) (json_reply 400 (mismatch_body expected found) close) result }
 {
     match mismatch_body(alloc, &expected, &found) {

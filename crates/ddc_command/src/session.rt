@@ -110,7 +110,12 @@ fn serve_requests<S: Source, W: Sink>(
 }
 
 /// Answers the requests of one stream, from a store on.
-pub fn run_session<S: Source, W: Sink>(alloc: Global, source: &mut S, store: &mut Store, sink: &mut W) -> Served
+pub fn run_session<S: Source, W: Sink>(
+    alloc: Global,
+    source: &mut S,
+    store: &mut Store,
+    sink: &mut W,
+) -> Served
     ensures gives { Serves (S.left source.old) (S.left source.new) (W.written sink.old) (W.written sink.new) store.old result }
     ensures read { result ≡ Served.ReadFailed → Rose (S.faults source.old) (S.faults source.new) }
     ensures write { result ≡ Served.WriteFailed → Rose (W.faults sink.old) (W.faults sink.new) }

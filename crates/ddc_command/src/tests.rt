@@ -5,26 +5,50 @@ use std::alloc::{AllocError, Global};
 use std::test::Fail;
 
 // A blob of no byte is stored, and fetched. The hash is b3sum's.
-const PUT_EMPTY: &[u8] = b"PUT /api/v1/blobs/game/af1349b9f5f9a1a6a0404dea36dcc9499bcb25c9 HTTP/1.1\r\nContent-Length: 0\r\n\r\n";
+const PUT_EMPTY: &[u8] =
+    b"PUT /api/v1/blobs/game/af1349b9f5f9a1a6a0404dea36dcc9499bcb25c9 HTTP/1.1\r\nContent-Length: 0\r\n\r\n";
+
 const GET_EMPTY: &[u8] =
     b"GET /api/v1/blobs/game/af1349b9f5f9a1a6a0404dea36dcc9499bcb25c9 HTTP/1.1\r\n\r\n";
-const STORED_EMPTY: &[u8] = b"HTTP/1.1 200 OK\r\nContent-Type: application/json\r\nContent-Length: 57\r\n\r\n{\"identifier\":\"af1349b9f5f9a1a6a0404dea36dcc9499bcb25c9\"}";
-const FOUND_EMPTY: &[u8] = b"HTTP/1.1 200 OK\r\nContent-Type: application/octet-stream\r\nX-Jupiter-IoHash: af1349b9f5f9a1a6a0404dea36dcc9499bcb25c9\r\nContent-Length: 0\r\n\r\n";
+
+const STORED_EMPTY: &[u8] =
+    b"HTTP/1.1 200 OK\r\nContent-Type: application/json\r\nContent-Length: 57\r\n\r\n{\"identifier\":\"af1349b9f5f9a1a6a0404dea36dcc9499bcb25c9\"}";
+
+const FOUND_EMPTY: &[u8] =
+    b"HTTP/1.1 200 OK\r\nContent-Type: application/octet-stream\r\nX-Jupiter-IoHash: af1349b9f5f9a1a6a0404dea36dcc9499bcb25c9\r\nContent-Length: 0\r\n\r\n";
 
 // The letter `a` under its own hash, which is b3sum's, and under that of no byte.
-const PUT_LETTER: &[u8] = b"PUT /api/v1/blobs/game/17762fddd969a453925d65717ac3eea21320b66b HTTP/1.1\r\nContent-Length: 1\r\n\r\na";
+const PUT_LETTER: &[u8] =
+    b"PUT /api/v1/blobs/game/17762fddd969a453925d65717ac3eea21320b66b HTTP/1.1\r\nContent-Length: 1\r\n\r\na";
+
 const GET_LETTER: &[u8] =
     b"GET /api/v1/blobs/game/17762FDDD969A453925D65717AC3EEA21320B66B HTTP/1.1\r\n\r\n";
-const FOUND_LETTER: &[u8] = b"HTTP/1.1 200 OK\r\nContent-Type: application/octet-stream\r\nX-Jupiter-IoHash: 17762fddd969a453925d65717ac3eea21320b66b\r\nContent-Length: 1\r\n\r\na";
-const STORED_LETTER: &[u8] = b"HTTP/1.1 200 OK\r\nContent-Type: application/json\r\nContent-Length: 57\r\n\r\n{\"identifier\":\"17762fddd969a453925d65717ac3eea21320b66b\"}";
-const PUT_OTHER: &[u8] = b"PUT /api/v1/blobs/game/af1349b9f5f9a1a6a0404dea36dcc9499bcb25c9 HTTP/1.1\r\nContent-Length: 1\r\n\r\na";
-const REFUSED_OTHER: &[u8] = b"HTTP/1.1 400 Bad Request\r\nContent-Type: application/json\r\nContent-Length: 127\r\n\r\n{\"error\":\"hash_mismatch\",\"found\":\"17762fddd969a453925d65717ac3eea21320b66b\",\"named\":\"af1349b9f5f9a1a6a0404dea36dcc9499bcb25c9\"}";
-const NOT_FOUND: &[u8] = b"HTTP/1.1 404 Not Found\r\nContent-Type: application/json\r\nContent-Length: 21\r\n\r\n{\"error\":\"not_found\"}";
+
+const FOUND_LETTER: &[u8] =
+    b"HTTP/1.1 200 OK\r\nContent-Type: application/octet-stream\r\nX-Jupiter-IoHash: 17762fddd969a453925d65717ac3eea21320b66b\r\nContent-Length: 1\r\n\r\na";
+
+const STORED_LETTER: &[u8] =
+    b"HTTP/1.1 200 OK\r\nContent-Type: application/json\r\nContent-Length: 57\r\n\r\n{\"identifier\":\"17762fddd969a453925d65717ac3eea21320b66b\"}";
+
+const PUT_OTHER: &[u8] =
+    b"PUT /api/v1/blobs/game/af1349b9f5f9a1a6a0404dea36dcc9499bcb25c9 HTTP/1.1\r\nContent-Length: 1\r\n\r\na";
+
+const REFUSED_OTHER: &[u8] =
+    b"HTTP/1.1 400 Bad Request\r\nContent-Type: application/json\r\nContent-Length: 127\r\n\r\n{\"error\":\"hash_mismatch\",\"found\":\"17762fddd969a453925d65717ac3eea21320b66b\",\"named\":\"af1349b9f5f9a1a6a0404dea36dcc9499bcb25c9\"}";
+
+const NOT_FOUND: &[u8] =
+    b"HTTP/1.1 404 Not Found\r\nContent-Type: application/json\r\nContent-Length: 21\r\n\r\n{\"error\":\"not_found\"}";
+
 const GET_ELSEWHERE: &[u8] =
     b"GET /api/v1/blobs/other/af1349b9f5f9a1a6a0404dea36dcc9499bcb25c9 HTTP/1.1\r\n\r\n";
-const UNKNOWN: &[u8] = b"HTTP/1.1 404 Not Found\r\nContent-Type: application/json\r\nContent-Length: 29\r\n\r\n{\"error\":\"unknown_namespace\"}";
+
+const UNKNOWN: &[u8] =
+    b"HTTP/1.1 404 Not Found\r\nContent-Type: application/json\r\nContent-Length: 29\r\n\r\n{\"error\":\"unknown_namespace\"}";
+
 const DELETE: &[u8] = b"DELETE / HTTP/1.1\r\n\r\n";
-const UNREAD: &[u8] = b"HTTP/1.1 400 Bad Request\r\nContent-Type: application/json\r\nContent-Length: 18\r\nConnection: close\r\n\r\n{\"error\":\"unread\"}";
+
+const UNREAD: &[u8] =
+    b"HTTP/1.1 400 Bad Request\r\nContent-Type: application/json\r\nContent-Length: 18\r\nConnection: close\r\n\r\n{\"error\":\"unread\"}";
 
 // What one run answered, wrote and noted.
 #[derive(Drop)]
@@ -54,7 +78,14 @@ fn words_of(alloc: Global, words: &[&str]) -> Result<Vec<String>, AllocError> {
     Ok(all)
 }
 
-fn run_words(alloc: Global, words: &[&str], input: &[u8], size: u32, reads: &[u64], writes: &[u64]) -> Result<Ran, NoMemory> {
+fn run_words(
+    alloc: Global,
+    words: &[&str],
+    input: &[u8],
+    size: u32,
+    reads: &[u64],
+    writes: &[u64],
+) -> Result<Ran, NoMemory> {
     let words = words_of(alloc, words)?;
     let bytes: ByteList = rows_of(alloc, input)?;
     let mut sizes = Vec::new(alloc);
@@ -75,7 +106,13 @@ fn run_words(alloc: Global, words: &[&str], input: &[u8], size: u32, reads: &[u6
     })
 }
 
-fn run(alloc: Global, input: &[u8], size: u32, reads: &[u64], writes: &[u64]) -> Result<Ran, NoMemory> {
+fn run(
+    alloc: Global,
+    input: &[u8],
+    size: u32,
+    reads: &[u64],
+    writes: &[u64],
+) -> Result<Ran, NoMemory> {
     run_words(alloc, &["replay", "store"], input, size, reads, writes)
 }
 
@@ -100,7 +137,13 @@ fn refusals_let_the_stream_go_on(rt: HostRuntime) -> Result<(), Fail> {
     )?;
     let wanted = joined(
         rt.alloc(),
-        &[REFUSED_OTHER, NOT_FOUND, UNKNOWN, STORED_LETTER, FOUND_LETTER],
+        &[
+            REFUSED_OTHER,
+            NOT_FOUND,
+            UNKNOWN,
+            STORED_LETTER,
+            FOUND_LETTER,
+        ],
     )?;
     let ran = run(rt.alloc(), &input, 0, &[], &[])?;
     assert_eq!(rt; ran.status, 0);
@@ -140,7 +183,11 @@ fn an_input_cut_at_each_byte(rt: HostRuntime) -> Result<(), Fail> {
         assert_eq!(rt; ran.status, if place == end { 0 } else { 3 });
         assert!(rt; ran.written.as_slice() == &all[..written.min(all.len())]);
         let note = format!(in rt.alloc(); "ddc: bad input at {place}: cut\n")?;
-        let told = if place == end { b"".as_slice() } else { note.as_bytes() };
+        let told = if place == end {
+            b"".as_slice()
+        } else {
+            note.as_bytes()
+        };
         assert!(rt; ran.noted.as_slice() == told);
     }
     Ok(())
@@ -184,8 +231,11 @@ fn the_last_request_of_a_stream_closes(rt: HostRuntime) -> Result<(), Fail> {
     let ran = run(rt.alloc(), &input, 0, &[], &[])?;
     assert_eq!(rt; ran.status, 3);
     assert_eq!(rt; ran.written.len(), 10_000 * NOT_FOUND.len() + 19);
-    let last = b"Content-Length: 21\r\nConnection: close\r\n\r\n{\"error\":\"not_found\"}".as_slice();
+    let last =
+        b"Content-Length: 21\r\nConnection: close\r\n\r\n{\"error\":\"not_found\"}".as_slice();
     assert!(rt; ran.written.ends_with(last));
-    assert!(rt; ran.noted.as_slice() == b"ddc: bad input at 760000: too_many_requests\n".as_slice());
+    assert!(rt;
+        ran.noted.as_slice() == b"ddc: bad input at 760000: too_many_requests\n".as_slice()
+    );
     Ok(())
 }

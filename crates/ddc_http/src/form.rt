@@ -65,7 +65,13 @@ fn blob_named(target: &[u8]) -> Option<(Namespace, IoHash)>
     }
 }
 
-fn form_at(method: &[u8], space: Namespace, hash: IoHash, buf: &[u8], headers: &[HeaderSpan]) -> Option<Form>
+fn form_at(
+    method: &[u8],
+    space: Namespace,
+    hash: IoHash,
+    buf: &[u8],
+    headers: &[HeaderSpan],
+) -> Option<Form>
     requires { All (IsHeaderWithin (length buf.now)) headers.now }
     ensures { result ≡ form_at method.now (map (header_bytes buf.now) headers.now) (space, hash) }
 {
@@ -86,7 +92,9 @@ pub fn form_of(method: &[u8], target: &[u8], buf: &[u8], headers: &[HeaderSpan])
     requires { All (IsHeaderWithin (length buf.now)) headers.now }
     ensures { result ≡ form method.now target.now (map (header_bytes buf.now) headers.now) }
 {
-    if !is_absent(buf, headers, b"transfer-encoding") || !is_absent(buf, headers, b"x-jupiter-iohash") {
+    if !is_absent(buf, headers, b"transfer-encoding")
+        || !is_absent(buf, headers, b"x-jupiter-iohash")
+    {
         return None;
     }
     let (space, hash) = blob_named(target)?;

@@ -38,7 +38,10 @@ fn fill<S: Source>(source: &mut S, held: &mut Vec<u8>) -> Result<bool, HttpFault
 }
 
 // Holds pieces of the source until a head stands at the front, or none can.
-fn read_head<S: Source>(source: &mut S, held: &mut Vec<u8>) -> Result<Option<(usize, Form)>, HttpFault>
+fn read_head<S: Source>(
+    source: &mut S,
+    held: &mut Vec<u8>,
+) -> Result<Option<(usize, Form)>, HttpFault>
     ensures gives { HeadsAs (prepend_known held.old.items (S.left source.old)) (prepend_known held.new.items (S.left source.new)) (S.left source.new) held.new.items result }
     ensures ready { HasItem held.old.items → (source.new ≡ source.old) × (held.new ≡ held.old) }
     ensures later { S.faults source.old ≤ S.faults source.new }

@@ -5,5 +5,4 @@ ghost use Rattle.ddc_protocol.specs.Laws.{OneCut};
 /// the end, but that bytes of which no head can become may end as cut or as unread.
 pub fn one_cut()
     ensures { OneCut }
-{
-}
+{}

@@ -18,10 +18,10 @@ returns-in-Ok-write_both g c =
     let P : List ℕ → Type 0 = λ t. NotesAs (g.N.Sink.written old) (g.N.Sink.written mid) (g.N.Sink.faults old) (g.N.Sink.faults mid) (codes "ddc: bad input at " ++ t) ok in
     let Q : List ℕ → Type 0 = λ t. NotesAs (g.N.Sink.written mid) (g.N.Sink.written near) (g.N.Sink.faults mid) (g.N.Sink.faults near) (codes ": " ++ t) ok in
     let both = notes_then (g.N.Sink.written old) (g.N.Sink.written mid) (g.N.Sink.written near) (g.N.Sink.faults old) (g.N.Sink.faults mid) (g.N.Sink.faults near)
-        front back ok (subst P digits c.in-Ok.ensures.gives) (subst Q c.as_bytes-in-Ok.ensures.value c.in-Ok-write_both.ensures.gives) in
+    front back ok (subst P digits c.in-Ok.ensures.gives) (subst Q c.as_bytes-in-Ok.ensures.value c.in-Ok-write_both.ensures.gives) in
     record {
       gives = notes_then (g.N.Sink.written old) (g.N.Sink.written near) (g.N.Sink.written new) (g.N.Sink.faults old) (g.N.Sink.faults near) (g.N.Sink.faults new)
-          (front ++ back) (codes "\n") c.write_note.result both c.write_note.ensures.gives
+          (front ++ back) (codes "\n") c.write_note.result both c.write_note.ensures.gives;
     }
 
 pub returns-in-Err-write_both : goal.returns-in-Err-write_both
@@ -37,7 +37,7 @@ returns-in-Err-write_both g c =
     let P : List ℕ → Type 0 = λ t. NotesAs (g.N.Sink.written old) (g.N.Sink.written mid) (g.N.Sink.faults old) (g.N.Sink.faults mid) (codes "ddc: bad input at " ++ t) ok in
     let Q : List ℕ → Type 0 = λ t. NotesAs (g.N.Sink.written mid) (g.N.Sink.written new) (g.N.Sink.faults mid) (g.N.Sink.faults new) (codes ": " ++ t) err in
     let both = notes_then (g.N.Sink.written old) (g.N.Sink.written mid) (g.N.Sink.written new) (g.N.Sink.faults old) (g.N.Sink.faults mid) (g.N.Sink.faults new)
-        front back err (subst P digits c.in-Ok.ensures.gives) (subst Q c.as_bytes-in-Ok.ensures.value c.in-Err-write_both.ensures.gives) in
+    front back err (subst P digits c.in-Ok.ensures.gives) (subst Q c.as_bytes-in-Ok.ensures.value c.in-Err-write_both.ensures.gives) in
     record { gives = notes_first (g.N.Sink.written old) (g.N.Sink.written new) (g.N.Sink.faults old) (g.N.Sink.faults new) (front ++ back) (codes "\n") c.in-Err-write_both.failed both }
 
 pub returns-in-Err : goal.returns-in-Err

@@ -35,4 +35,4 @@ returns-clause-gives g c =
     let Q : ℕ → Type 0 = λ at. Serves (g.S.Source.left (source_of c.args.reader.now)) (g.S.Source.left (source_of c.requests.reader)) (g.W.Sink.written c.args.sink.now) (g.W.Sink.written c.requests.sink) c.args.store.now (Spent at) in
     subst Q (sym c.place.ensures)
     (spends (g.S.Source.left (source_of c.args.reader.now)) (prepend_known (held_of c.requests.reader) (g.S.Source.left (source_of c.requests.reader))) (g.S.Source.left (source_of c.requests.reader))
-      (g.W.Sink.written c.args.sink.now) (g.W.Sink.written c.requests.sink) c.args.store.now c.requests.store (place_of c.requests.reader) (subst P last c.requests.invariant.so_far))
+    (g.W.Sink.written c.args.sink.now) (g.W.Sink.written c.requests.sink) c.args.store.now c.requests.store (place_of c.requests.reader) (subst P last c.requests.invariant.so_far))

@@ -5,6 +5,6 @@ use Rattle.ddc_http.proofs.fields.number_of.Given as goal
 
 abbrev pub invariant-loop-digit : goal.invariant-loop-digit
 invariant-loop-digit l = record {
-    digits : all_ascii_digits (take l.digit-index l.text) ≡ true;
-    value : l.value ≡ digits_value 10 (take l.digit-index l.text)
+  digits : all_ascii_digits (take l.digit-index l.text) ≡ true;
+  value : l.value ≡ digits_value 10 (take l.digit-index l.text);
 }

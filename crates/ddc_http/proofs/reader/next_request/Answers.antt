@@ -22,8 +22,7 @@ returns-in-Get-clause-gives g c =
     let long : length text ≡ len = ap length (append-nil (take len held)) ∙ length-take-le len held within in
     let P : List ℕ → Type 0 = λ t. Consumes (prepend_known held left) (prepend_known (drop len held) left) t in
     let Q : List ℕ → Type 0 = λ r. Consumes (prepend_known held left) (prepend_known r left) text in
-    let taken = subst Q (sym c.drop_front.ensures) (subst P (sym (append-nil (take len held))) (consumes-front left held len)) in
-    (
+    let taken = subst Q (sym c.drop_front.ensures) (subst P (sym (append-nil (take len held))) (consumes-front left held len)) in (
       text,
       spells held [] len c.in-Ok-Some.found.1 (get c.in-Get.space c.in-Get.hash) h (sym (ap body_length c.in-Get.is)) (ap (λ f. item_of f []) c.in-Get.is),
       kept-consumes before (prepend_known held left) (prepend_known c.drop_front.new.held.items left) text kept taken,

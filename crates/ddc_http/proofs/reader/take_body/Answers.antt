@@ -14,7 +14,7 @@ pieces-init g c =
     let piece = take (len + first - len) (drop len c.deref.result.now) in
     let places : len + first - len ≡ first = omega arith in
     let fed : c.take.new.self.bytes ≡ take first (drop len held) =
-        ap (λ p. p.bytes) c.in-Ok.ensures.taken ∙ ap (λ (p : Taken). p.bytes ++ piece) c.new-intake.ensures ∙ ap (λ n. take n (drop len c.deref.result.now)) places ∙ ap (λ l. take first (drop len l)) c.deref.ensures.value in
+    ap (λ p. p.bytes) c.in-Ok.ensures.taken ∙ ap (λ (p : Taken). p.bytes ++ piece) c.new-intake.ensures ∙ ap (λ n. take n (drop len c.deref.result.now)) places ∙ ap (λ l. take first (drop len l)) c.deref.ensures.value in
     let room : first ≤ length (drop len held) = omega (arith, length-drop len held) in
     let long : length c.take.new.self.bytes ≡ first = ap length fed ∙ length-take-le first (drop len held) room in
     record {
@@ -31,8 +31,7 @@ returns-in-Err-take-clause-gives g c =
     let held = c.args.held.now.items in
     let short : length c.pieces.intake.bytes < c.args.size = omega arith in
     let part = take c.args.len held ++ c.pieces.intake.bytes in
-    let before = prepend_known held (g.S.Source.left c.args.source.now) in
-    (
+    let before = prepend_known held (g.S.Source.left c.args.source.now) in (
       part,
       consumes-kept before (g.S.Source.left c.pieces.source) (g.S.Source.left c.take-in-pieces.new.self) part
           (consumes-bare before (g.S.Source.left c.pieces.source) c.drop_front.new.held.items part (i.bare (omega arith)) i.taken) c.in-Err-take.ensures.bytes,
@@ -66,7 +65,7 @@ pieces-preserved g c =
     let piece = take n c.take-in-pieces.new.into in
     let fits = c.in-Ok-take.ensures.bound in
     let fed : c.take-in-pieces-2.new.self.bytes ≡ c.pieces.intake.bytes ++ piece =
-        ap (λ p. p.bytes) c.in-Ok-take-2.ensures.taken ∙ ap (λ l. c.pieces.intake.bytes ++ l) (take-append-le n c.take-in-pieces.new.into (drop c.min-most.result c.pieces.piece) fits.0) in
+    ap (λ p. p.bytes) c.in-Ok-take-2.ensures.taken ∙ ap (λ l. c.pieces.intake.bytes ++ l) (take-append-le n c.take-in-pieces.new.into (drop c.min-most.result c.pieces.piece) fits.0) in
     let long : length c.take-in-pieces-2.new.self.bytes ≡ length c.pieces.intake.bytes + n = ap length fed ∙ length-append c.pieces.intake.bytes piece ∙ ap (λ k. length c.pieces.intake.bytes + k) (sym fits.1) in
     let within : n ≤ c.pieces.wanted = omega (arith, c.take-in-pieces.auto.into, length-take-le c.min-most.result c.pieces.piece (omega arith)) in
     let before = prepend_known held (g.S.Source.left c.args.source.now) in
