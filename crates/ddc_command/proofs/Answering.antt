@@ -1,5 +1,5 @@
 -- The reply to a put.
-use Rattle.std.proofs.Common.{◌≡◌, ℕ, List, Bool, true, false, cond, codes, ap, ◌∙◌, sym}
+use Rattle.std.proofs.Common.{◌≡◌, ℕ, List, Bool, true, cond, codes, ap, ◌∙◌, sym}
 use Rattle.tree_hash.specs.TreeHash.{io}
 use Rattle.ddc_names.specs.declared.hash.IoHash.{IoHash}
 use Rattle.ddc_protocol.specs.Replies.{json_reply, identifier_body}

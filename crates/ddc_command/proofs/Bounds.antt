@@ -1,14 +1,14 @@
 -- How long a request can be.
-use Rattle.std.proofs.Common.{◌≡◌, ℕ, ◌≤◌, ◌+◌, Bool, true, false, cond, List, [], ◌∷◌, ◌++◌, length, map, Option, Some, None, IfSome, ap, ◌∙◌, subst, arith, length-append, refl, nat_le, codes, ◌&&◌}
+use Rattle.std.proofs.Common.{◌≡◌, ℕ, ◌≤◌, ◌+◌, Bool, true, false, cond, List, [], ◌∷◌, length, map, Option, Some, None, IfSome, ap, ◌∙◌, subst, arith, length-append, refl, nat_le, codes, ◌&&◌}
 use Rattle.std.proofs.lemmas.Bool.Decides.{nat_tests}
 use Rattle.httparse.specs.Grammar.{RequestHead, print_request}
 use Rattle.httparse.specs.Spans.{name_and_value}
 use Rattle.ddc_names.specs.declared.hash.IoHash.{IoHash}
 use Rattle.ddc_protocol.specs.declared.form.Form.{Form}
-use Rattle.ddc_protocol.specs.declared.form.Form.TheVariants.{Put, Get}
+use Rattle.ddc_protocol.specs.declared.form.Form.TheVariants.{Get}
 use Rattle.ddc_protocol.specs.Fields.{values_of, number, same_text}
-use Rattle.ddc_protocol.specs.Form.{most_bytes, within_limit, put_length, put_form, form_at, form_where, form, form_of, blob_named, is_empty, is_of_bytes, is_without_body}
-use Rattle.ddc_protocol.specs.Requests.{IsHead, Item, Spells, body_length}
+use Rattle.ddc_protocol.specs.Form.{most_bytes, within_limit, put_length, put_form, form_where, form, form_of, blob_named, is_empty, is_of_bytes, is_without_body}
+use Rattle.ddc_protocol.specs.Requests.{Item, Spells, body_length}
 
 abbrev IsShort : Option Form → Type 0
 IsShort found = IfSome found (λ form. body_length form ≤ most_bytes)

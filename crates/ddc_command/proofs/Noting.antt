@@ -1,11 +1,11 @@
 -- What writing a note in parts leaves.
-use Rattle.std.proofs.Common.{◌≡◌, ℕ, ◌≤◌, List, ◌++◌, Option, Result, Ok, Err, OnOk, OnErr, inl, inr, arith}
+use Rattle.std.proofs.Common.{ℕ, List, ◌++◌, Option, Result, Ok, Err, OnOk, OnErr, inl, inr, arith}
 use Rattle.std.specs.Io.KnownBytes.{Appends}
 use Rattle.std.proofs.KnownBytes.{Appends-trans}
 use Rattle.ddc_names.specs.declared.Failed.{Failed}
-use Rattle.ddc_link.specs.Causes.{Rose, HasCause}
+use Rattle.ddc_link.specs.Causes.{HasCause}
 use Rattle.ddc_link.specs.Writes.{AppendsFront}
-use Rattle.ddc_command.specs.Top.{Noted, Notes, NotesAs}
+use Rattle.ddc_command.specs.Top.{Noted, NotesAs}
 use Rattle.ddc_command.proofs.Writing.{front_more, front_behind, rose_later}
 
 pub notes_put : (old new : Option (List ℕ)) (before now : ℕ) (text : List ℕ) (result : Result (Unit {0}) Failed) → OnOk result (Appends old new text) → OnErr result (AppendsFront old new text) → HasCause before now result → NotesAs old new before now text result

@@ -1,18 +1,17 @@
 -- A run of turns, and how each end of it follows.
-use Rattle.std.proofs.Common.{◌≡◌, ◌⊎◌, ℕ, ◌≤◌, ◌<◌, ◌+◌, ◌*◌, Bool, List, [], ◌∷◌, ◌++◌, length, refl, sym, ap, ◌∙◌, subst, append_assoc, append-nil, arith, Option, Some, None, IfSome, inl, inr, length-append, min, ◌^◌, ◌-◌}
-use Rattle.std.specs.Io.KnownBytes.{Keeps, Appends, Consumes, prepend_known}
+use Rattle.std.proofs.Common.{◌≡◌, ℕ, ◌≤◌, ◌<◌, ◌+◌, ◌*◌, Bool, List, [], ◌∷◌, ◌++◌, length, refl, sym, ap, ◌∙◌, subst, append_assoc, append-nil, arith, Option, Some, None, IfSome, inl, inr, length-append, ◌-◌}
+use Rattle.std.specs.Io.KnownBytes.{Keeps, Appends, Consumes}
 use Rattle.std.proofs.KnownBytes.{Appends-trans, Appends-kept, Consumes-trans}
 use Rattle.ddc_link.specs.Writes.{AppendsFront}
-use Rattle.ddc_protocol.specs.Requests.{Item, Begins, Spells, Cuts, EndsAs, IsUnread, IsCut, HasNoItem, End, closed, cut, unread, spent, most_items}
+use Rattle.ddc_protocol.specs.Requests.{Item, Begins, Spells, EndsAs, IsUnread, IsCut, End, closed, cut, unread, spent, most_items}
 use Rattle.ddc_protocol.specs.Replies.{unread_reply}
-use Rattle.ddc_http.specs.Reader.{Takes, LosesPart, place_behind}
 use Rattle.ddc_command.specs.declared.plain.Store.{Store}
 use Rattle.ddc_command.specs.declared.session.Served.{Served}
 use Rattle.ddc_command.specs.declared.session.Served.TheVariants.{Closed, Unread, Cut, Spent, ReadFailed, WriteFailed, NoMemory}
 use Rattle.ddc_command.specs.declared.session.Turn.TheVariants.{Answered, Ended}
 use Rattle.ddc_command.specs.Replies.{reply, after, closes, replies, after_all, last_text}
-use Rattle.ddc_command.specs.Session.{TurnAs, Reads, Whole, StartsAs, Front, FirstReplies, RepliesToRead, Serves}
-use Rattle.ddc_command.proofs.Writing.{front_more, front_behind}
+use Rattle.ddc_command.specs.Session.{TurnAs, Reads, Whole, StartsAs, Serves}
+use Rattle.ddc_command.proofs.Writing.{front_behind}
 use Rattle.ddc_command.proofs.Bounds.{length-text}
 
 begins_more : (items : List Item) (front mid rest : List ℕ) → Begins front items mid → Begins (front ++ rest) items (mid ++ rest)

@@ -1,8 +1,6 @@
 -- What each status says of how a session ended.
-use Rattle.std.proofs.Common.{◌≡◌, ◌⊎◌, ℕ, List, [], ◌∷◌, ◌++◌, codes, refl, sym, ap, ◌∙◌, subst, append-nil, arith, Option, Some, None, inl, inr, length, length-append}
+use Rattle.std.proofs.Common.{◌≡◌, ℕ, List, [], ◌∷◌, ◌++◌, codes, refl, ◌∙◌, subst, append-nil, arith, Option, Some, None, inl, inr}
 use Rattle.std.specs.Io.KnownBytes.{Keeps, Appends, IsAtEnd}
-use Rattle.ddc_link.specs.Causes.{Rose}
-use Rattle.ddc_link.specs.Writes.{AppendsFront}
 use Rattle.ddc_protocol.specs.Requests.{End, closed, cut, unread, spent}
 use Rattle.ddc_command.specs.declared.plain.Store.{Store}
 use Rattle.ddc_command.specs.declared.session.Served.{Served}

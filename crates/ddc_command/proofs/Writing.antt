@@ -1,5 +1,5 @@
 -- What writing one text behind another leaves.
-use Rattle.std.proofs.Common.{◌≡◌, ◌≤◌, arith, ℕ, List, ◌++◌, sym, ap, ◌∙◌, append_assoc, Option}
+use Rattle.std.proofs.Common.{◌≤◌, arith, ℕ, List, ◌++◌, sym, ap, ◌∙◌, append_assoc, Option}
 use Rattle.std.specs.Io.KnownBytes.{Appends}
 use Rattle.std.proofs.KnownBytes.{Appends-trans}
 use Rattle.ddc_link.specs.Causes.{Rose}

@@ -1,14 +1,11 @@
 -- What each request is answered, and what it leaves.
-use Rattle.std.specs.Prelude.{ℕ, ◌+◌, Bool, true, false, List, [], ◌∷◌, ◌++◌, Option, Some, None, is_some, codes, if◌then◌else◌, ◌==◌}
+use Rattle.std.specs.Prelude.{ℕ, ◌+◌, Bool, List, [], ◌∷◌, ◌++◌, Option, Some, None, is_some, codes, if◌then◌else◌, ◌==◌}
 use Rattle.std.specs.FinMap as map
 use Rattle.ddc_names.specs.declared.hash.IoHash.{IoHash}
 use Rattle.ddc_names.specs.Orders.{name_cmp}
 use Rattle.ddc_protocol.specs.Replies.{json_reply, blob_reply, identifier_body, error_body, mismatch_body, unread_reply}
 use Rattle.ddc_protocol.specs.Requests.{named, Item, put, get, mismatch, End, closed, cut, unread, spent, most_items}
-use Rattle.ddc_command.specs.declared.plain.SpaceRow.{SpaceRow}
-use Rattle.ddc_command.specs.declared.plain.BlobName.{BlobName}
 use Rattle.ddc_command.specs.declared.plain.Store.{Store}
-use Rattle.ddc_command.specs.Tables.{blob_name_cmp}
 
 -- the store that a stream finds: the namespace `game`, and no blob
 abbrev pub opened : Store

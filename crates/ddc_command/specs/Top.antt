@@ -6,11 +6,9 @@ use Rattle.std.specs.Io.KnownBytes.{Appends}
 use Rattle.ddc_names.specs.declared.Failed.{Failed}
 use Rattle.ddc_link.specs.Causes.{Rose}
 use Rattle.ddc_link.specs.Writes.{AppendsFront}
-use Rattle.ddc_protocol.specs.Requests.{End, closed, cut, unread, spent}
+use Rattle.ddc_protocol.specs.Requests.{End, cut, unread, spent}
 use Rattle.ddc_command.specs.declared.session.Served.{Served}
 use Rattle.ddc_command.specs.declared.session.Served.TheVariants.{Closed, Unread, Cut, Spent, ReadFailed, WriteFailed, NoMemory}
-use Rattle.ddc_command.specs.Replies.{opened}
-use Rattle.ddc_command.specs.Session.{Whole, Front, FirstReplies, RepliesToRead}
 
 -- `replay` and one further word
 abbrev pub is_replay : List (String Global) → Bool

@@ -1,5 +1,5 @@
 // What is told of how a command ended.
-ghost use Rattle.std.specs.Prelude.{◌≡◌, ◌++◌, codes, decimal};
+ghost use Rattle.std.specs.Prelude.{◌≡◌, ◌++◌};
 ghost use Rattle.ddc_command.specs.Top.{Noted, NotesAs, bad_note, usage_note, note_of, status_of};
 
 use crate::session::Served;

@@ -1,8 +1,6 @@
 // The replies to requests.
-ghost use Rattle.std.specs.Prelude.{◌≡◌, ◌≤◌, ◌++◌, codes, IfOk, IsSome, IsOk, OnOk, OnErr, option_map};
-ghost use Rattle.std.specs.Io.KnownBytes.{Appends, Keeps};
+ghost use Rattle.std.specs.Prelude.{◌≡◌, ◌++◌, IsSome, OnOk};
 ghost use Rattle.http.specs.StatusCode.{reason_phrase};
-ghost use Rattle.ddc_link.specs.Causes.{Rose};
 ghost use Rattle.ddc_protocol.specs.Replies.{json_reply, blob_reply, identifier_body, mismatch_body, unread_reply};
 ghost use Rattle.ddc_http.specs.Heads.{text_of, code_text};
 ghost use Rattle.ddc_http.specs.Reader.{asked};

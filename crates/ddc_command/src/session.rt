@@ -1,5 +1,5 @@
 // One stream of requests.
-ghost use Rattle.std.specs.Prelude.{◌≡◌, ◌≤◌, ◌<◌, ◌+◌, ℕ, List, false, [], IfOk};
+ghost use Rattle.std.specs.Prelude.{◌≡◌, ◌≤◌, false, []};
 ghost use Rattle.std.specs.Io.KnownBytes.{prepend_known};
 ghost use Rattle.ddc_link.specs.Causes.{Rose};
 ghost use Rattle.ddc_http.specs.Stream.{source_of, held_of, place_of, has_ended};

@@ -1,11 +1,11 @@
 -- A head in a window of the bytes is a head of the bytes.
-use Rattle.std.proofs.Common.{◌≡◌, ℕ, ◌≤◌, ◌<◌, ◌+◌, ◌-◌, List, [], ◌++◌, length, take, drop, refl, sym, ap, ◌∙◌, subst, append_assoc, arith, Option, length-append, take-append-drop}
-use Rattle.std.proofs.lemmas.List.{drop-append-le, take_at}
+use Rattle.std.proofs.Common.{◌≡◌, ℕ, ◌≤◌, ◌+◌, ◌-◌, List, ◌++◌, length, take, drop, sym, ap, ◌∙◌, append_assoc, arith, Option, length-append}
+use Rattle.std.proofs.lemmas.List.{drop-append-le}
 use Rattle.std.proofs.Math.Seq.{take-append-add, take-append_seam}
-use Rattle.httparse.specs.Grammar.{RequestHead, IsRequestHead, print_request, HasNoRequest, ReadsRequest}
+use Rattle.httparse.specs.Grammar.{print_request, HasNoRequest}
 use Rattle.httparse.specs.Spans.{RequestOverflows}
 use Rattle.ddc_protocol.specs.declared.form.Form.{Form}
-use Rattle.ddc_protocol.specs.Requests.{IsHead, HasNoHead, NeverHasHead}
+use Rattle.ddc_protocol.specs.Requests.{NeverHasHead}
 use Rattle.ddc_http.specs.Reader.{HeadAt, HeadOf}
 
 pub head_at-widen : (window tail : List ℕ) (len : ℕ) (found : Option Form) → length window ≤ 16384 → HeadOf window len found → HeadAt (window ++ tail) len found

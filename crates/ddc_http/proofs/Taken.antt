@@ -1,7 +1,7 @@
 -- What was taken of the bytes ahead.
 use Rattle.std.proofs.Common.{◌≡◌, ◌⊎◌, ℕ, ◌≤◌, ◌<◌, ◌+◌, ◌-◌, List, [], ◌++◌, length, take, drop, refl, sym, ap, ◌∙◌, subst, append_assoc, append-nil, arith, Option, Some, None, Result, Ok, Err, IfSome, length-append, take-append-drop, inl, inr}
 use Rattle.std.proofs.Math.Seq.{take-add}
-use Rattle.std.proofs.lemmas.List.{length-take-le, length-drop, take_at, drop_at}
+use Rattle.std.proofs.lemmas.List.{length-drop, take_at}
 use Rattle.std.specs.Prelude.{Vec}
 use Rattle.std.specs.declared.alloc.Global.{Global}
 use Rattle.std.specs.Io.KnownBytes.{Keeps, Consumes, IsAtEnd, prepend_known}
@@ -9,7 +9,7 @@ use Rattle.httparse.specs.Grammar.{RequestHead, print_request}
 use Rattle.httparse.proofs.GrammarLemmas.{request_unique}
 use Rattle.ddc_protocol.specs.declared.form.Form.{Form}
 use Rattle.ddc_protocol.specs.Form.{form_of}
-use Rattle.ddc_protocol.specs.Requests.{IsHead, HasNoHead, body_length, Item, mismatch, item_of, Spells, LacksBody, IsCut, HasNoItem}
+use Rattle.ddc_protocol.specs.Requests.{IsHead, HasNoHead, body_length, Item, mismatch, item_of, Spells, IsCut, HasNoItem}
 use Rattle.ddc_names.specs.declared.hash.IoHash.{IoHash}
 use Rattle.ddc_protocol.specs.declared.form.Form.TheVariants.{Put}
 use Rattle.ddc_http.specs.declared.request.Request.{Request}

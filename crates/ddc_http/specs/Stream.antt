@@ -1,6 +1,5 @@
 -- What a reader of a stream shows.
 use Rattle.std.specs.Prelude.{◌≡◌, ℕ, Bool, true, false, List, Option, Some, None, Result, Ok, Err}
-use Rattle.std.specs.Io.KnownBytes.{prepend_known}
 use Rattle.ddc_http.specs.declared.request.Request.{Request}
 use Rattle.ddc_http.specs.declared.request.HttpFault.{HttpFault}
 use Rattle.ddc_http.specs.declared.request.HttpFault.TheVariants.{Unread, Cut, HashMismatch, ReadFailed, NoMemory}

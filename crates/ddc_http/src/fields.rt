@@ -1,8 +1,8 @@
 // The fields of a request head.
-ghost use Rattle.std.specs.Prelude.{◌≡◌, ◌≤◌, ℕ, List, ◌∷◌, length, map, All, codes};
+ghost use Rattle.std.specs.Prelude.{◌≡◌, ℕ, List, ◌∷◌, length, map, All, codes};
 ghost use Rattle.httparse.specs.Spans.{IsHeaderWithin, header_bytes};
-ghost use Rattle.ddc_protocol.specs.Fields.{same_name, same_text, values_of, number};
-ghost use Rattle.ddc_protocol.specs.Form.{is_empty, is_without_body, is_of_bytes, put_length, most_bytes, within_limit};
+ghost use Rattle.ddc_protocol.specs.Fields.{same_name, values_of, number};
+ghost use Rattle.ddc_protocol.specs.Form.{is_empty, is_without_body, is_of_bytes, put_length};
 ghost use Rattle.ddc_http.specs.Values.{AreValues};
 
 use httparse::spans::HeaderSpan;

@@ -1,5 +1,5 @@
 // What a request head asks for.
-ghost use Rattle.std.specs.Prelude.{◌≡◌, ◌≤◌, ℕ, List, length, map, All, codes};
+ghost use Rattle.std.specs.Prelude.{◌≡◌, length, map, All};
 ghost use Rattle.std.specs.List.{position};
 ghost use Rattle.std.specs.Result.{result_ok};
 ghost use Rattle.httparse.specs.Spans.{IsHeaderWithin, header_bytes};

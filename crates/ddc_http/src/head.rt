@@ -1,5 +1,4 @@
 // Where the head of a request ends.
-ghost use Rattle.std.specs.Prelude.{◌≡◌, ◌<◌, ◌≤◌, length, take};
 ghost use Rattle.ddc_http.specs.Reader.{Finds, FindsIn};
 
 use crate::form::form_of;

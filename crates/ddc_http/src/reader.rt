@@ -1,8 +1,7 @@
 // Requests taken from what is held and from a source.
-ghost use Rattle.std.specs.Prelude.{◌≡◌, ℕ, ◌≤◌, ◌<◌, ◌+◌, ◌-◌, ◌++◌, List, [], length, OnErr, Result, vec_len, drop, Some, true};
-ghost use Rattle.std.specs.Io.KnownBytes.{Keeps, Consumes, prepend_known};
+ghost use Rattle.std.specs.Prelude.{◌≡◌, ◌≤◌, ◌<◌, ◌+◌, length, vec_len, drop, true};
+ghost use Rattle.std.specs.Io.KnownBytes.{prepend_known};
 ghost use Rattle.ddc_link.specs.Causes.{Rose};
-ghost use Rattle.ddc_protocol.specs.Form.{most_bytes};
 ghost use Rattle.ddc_protocol.specs.Requests.{HasNoItem};
 ghost use Rattle.ddc_http.specs.Reader.{FillsAs, HeadsAs, BodyAs, BodyAt, HasItem, StoresAs, Answers};
 

@@ -1,5 +1,5 @@
 -- A stream is cut in one way.
-use Rattle.std.proofs.Common.{suc, zero-add, true, ◌≡◌, ℕ, ◌≤◌, ◌<◌, ◌+◌, List, [], ◌∷◌, ◌++◌, length, take, drop, refl, sym, ap, ◌∙◌, subst, append_assoc, append-nil, arith, Option, Some, None, length-append, inl, inr}
+use Rattle.std.proofs.Common.{suc, zero-add, true, ◌≡◌, ℕ, ◌≤◌, ◌<◌, ◌+◌, List, [], ◌∷◌, ◌++◌, length, take, drop, refl, sym, ap, ◌∙◌, subst, append_assoc, append-nil, arith, Some, None, length-append, inl, inr}
 use Rattle.std.proofs.lemmas.List.{take_at, drop_at}
 use Rattle.std.proofs.lemmas.List.Elements.{All-nil, All-push}
 use Rattle.std.proofs.lemmas.Str.{IsUtf8-from_ascii}
@@ -7,10 +7,9 @@ use Rattle.std.proofs.lemmas.Str.Ascii.{IsAscii-cons, IsAscii-nil}
 use Rattle.httparse.proofs.OpenLemmas.{letter_is_token}
 use Rattle.httparse.specs.Grammar.{RequestHead, print_request, is_token_byte, is_uri_byte, lf}
 use Rattle.httparse.proofs.GrammarLemmas.{request_unique, print_request-append}
-use Rattle.ddc_protocol.specs.declared.form.Form.{Form}
 use Rattle.ddc_protocol.specs.Form.{form_of}
-use Rattle.ddc_protocol.specs.Requests.{IsHead, NeverHasHead, body_length, Item, item_of, Spells, HasNoForm, LacksBody, IsUnread, IsCut, HasNoItem, Begins, End, closed, cut, unread, spent, most_items, EndsAs, Cuts}
-use Rattle.ddc_protocol.specs.Laws.{SameEnd, same, hopeless_cut, hopeless_unread, IsSameCut, OneCut}
+use Rattle.ddc_protocol.specs.Requests.{IsHead, body_length, Item, item_of, Spells, IsUnread, IsCut, HasNoItem, Begins, End, closed, cut, unread, spent, most_items, EndsAs, Cuts}
+use Rattle.ddc_protocol.specs.Laws.{SameEnd, same, hopeless_cut, hopeless_unread, OneCut}
 
 pub record SameItem (r q : List ℕ) (i j : Item) : Type 0 where
   pub rest : r ≡ q

@@ -1,6 +1,6 @@
 -- What holds of every cut of a stream.
 use Rattle.std.specs.Prelude.{◌≡◌, ℕ, List, drop}
-use Rattle.ddc_protocol.specs.Requests.{Item, End, closed, cut, unread, spent, NeverHasHead, Cuts}
+use Rattle.ddc_protocol.specs.Requests.{Item, End, cut, unread, NeverHasHead, Cuts}
 
 -- the same end, or bytes of which no head can become, which may end as cut or as unread
 pub data SameEnd (rest : List ℕ) : End → End → Type 0 where

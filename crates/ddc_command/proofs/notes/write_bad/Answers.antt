@@ -1,4 +1,4 @@
-use Rattle.std.proofs.Common.{◌≡◌, List, ℕ, ◌++◌, codes, Result, Ok, Err, ap, ◌∙◌, subst}
+use Rattle.std.proofs.Common.{List, ℕ, ◌++◌, codes, Result, Ok, Err, ◌∙◌, subst}
 use Rattle.std.specs.Prelude.{decimal}
 use Rattle.ddc_names.specs.declared.Failed.{Failed}
 use Rattle.ddc_command.specs.Top.{NotesAs}

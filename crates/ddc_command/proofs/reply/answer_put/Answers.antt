@@ -1,4 +1,4 @@
-use Rattle.std.proofs.Common.{List, ℕ, subst, ◌∙◌, rules}
+use Rattle.std.proofs.Common.{List, ℕ, subst, rules}
 use Rattle.ddc_command.specs.Writes.{WritesAs}
 use Rattle.ddc_command.proofs.Answering.{put_reply}
 use Rattle.ddc_command.proofs.reply.answer_put.Goals as goal

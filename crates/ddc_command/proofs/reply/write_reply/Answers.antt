@@ -1,6 +1,5 @@
-use Rattle.std.proofs.Common.{◌≤◌, arith, refl}
+use Rattle.std.proofs.Common.{arith}
 use Rattle.std.proofs.KnownBytes.{Appends-trans}
-use Rattle.ddc_link.specs.Causes.{Rose}
 use Rattle.ddc_http.specs.Heads.{text_of}
 use Rattle.ddc_command.proofs.Writing.{front_more, front_behind, rose_later}
 use Rattle.ddc_command.proofs.reply.write_reply.Goals as goal

@@ -1,4 +1,4 @@
-use Rattle.std.proofs.Common.{◌≡◌, ◌∙◌, sym}
+use Rattle.std.proofs.Common.{◌∙◌, sym}
 use Rattle.ddc_command.specs.Replies.{opened}
 use Rattle.ddc_command.proofs.Statuses.{done, bad}
 use Rattle.ddc_command.proofs.top.run_local.Goals as goal

@@ -1,4 +1,4 @@
-use Rattle.std.proofs.Common.{◌≡◌, ◌∷◌, List, ℕ, arith, sym, ap, ◌∙◌, subst, map, take, drop, length, ◌-◌}
+use Rattle.std.proofs.Common.{◌∷◌, List, ℕ, arith, sym, ap, ◌∙◌, subst, map, take, drop, length, ◌-◌}
 use Rattle.httparse.specs.Spans.{header_bytes}
 use Rattle.ddc_protocol.specs.Fields.{values_of, same_name}
 use Rattle.ddc_http.specs.Values.{AreValues}

@@ -1,5 +1,5 @@
-use Rattle.std.proofs.Common.{◌≡◌, ℕ, ◌≤◌, List, ◌++◌, take, drop, length, subst, sym, ap, arith, take-append-drop}
-use Rattle.std.proofs.lemmas.List.{length-take, length-take-le}
+use Rattle.std.proofs.Common.{◌≡◌, ℕ, ◌≤◌, List, take, drop, length, subst, arith, take-append-drop}
+use Rattle.std.proofs.lemmas.List.{length-take-le}
 use Rattle.ddc_http.specs.declared.head.Found.{Found}
 use Rattle.ddc_http.specs.declared.head.Found.TheVariants.{More, Never, Head}
 use Rattle.ddc_http.specs.Reader.{Finds, FindsIn}

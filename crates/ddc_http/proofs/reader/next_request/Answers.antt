@@ -1,11 +1,11 @@
-use Rattle.std.proofs.Common.{◌≡◌, ◌≤◌, ◌+◌, ◌-◌, ◌^◌, ◌++◌, [], ℕ, List, length, take, drop, min, refl, sym, ap, ◌∙◌, subst, arith, append-nil, length-append, Some}
+use Rattle.std.proofs.Common.{◌≡◌, ◌≤◌, ◌+◌, ◌-◌, ◌++◌, [], ℕ, List, length, take, drop, min, refl, sym, ap, ◌∙◌, subst, arith, append-nil, length-append, Some}
 use Rattle.std.specs.Prelude.{Vec}
 use Rattle.std.specs.declared.alloc.Global.{Global}
 use Rattle.std.proofs.lemmas.List.{length-take-le}
 use Rattle.std.specs.Io.KnownBytes.{Consumes, prepend_known}
 use Rattle.ddc_protocol.specs.declared.form.Form.{Form}
-use Rattle.ddc_protocol.specs.declared.form.Form.TheVariants.{Put, Get}
-use Rattle.ddc_protocol.specs.Requests.{get, Spells, body_length, item_of}
+use Rattle.ddc_protocol.specs.declared.form.Form.TheVariants.{Put}
+use Rattle.ddc_protocol.specs.Requests.{get, body_length, item_of}
 use Rattle.ddc_http.specs.Reader.{HasItem, HeadAt, BodyAt, place_behind}
 use Rattle.ddc_http.proofs.Taken.{spells, consumes-front, kept-consumes, whole_held, body_fails, body_stored}
 use Rattle.ddc_http.proofs.reader.next_request.Goals as goal
