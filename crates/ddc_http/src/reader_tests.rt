@@ -22,11 +22,13 @@ const ZERO: IoHash = IoHash([
 
 const PUT_LINE: &str =
     "PUT /api/v1/blobs/game/af1349b9f5f9a1a6a0404dea36dcc9499bcb25c9 HTTP/1.1\r\n";
+
 const GET_LINE: &str =
     "GET /api/v1/blobs/game/af1349b9f5f9a1a6a0404dea36dcc9499bcb25c9 HTTP/1.1\r\n";
 
 // The length of the put of nothing, and that of the get.
 const PUT: u64 = 95;
+
 const GET: u64 = 76;
 
 // What a call gave.
@@ -106,7 +108,9 @@ fn requests_come_one_behind_another(rt: HostRuntime) -> Result<(), Fail> {
 fn a_body_of_another_hash_is_passed_over(rt: HostRuntime) -> Result<(), Fail> {
     let mut text = String::new(rt.alloc());
     text.push_str(PUT_LINE)?;
-    text.push_str("content-length: 0000000000000000001\r\nContent-Type: application/octet-stream\r\n\r\n\0")?;
+    text.push_str(
+        "content-length: 0000000000000000001\r\nContent-Type: application/octet-stream\r\n\r\n\0",
+    )?;
     text.push_str(GET_LINE)?;
     text.push_str("Content-Length: 0\r\n\r\n")?;
     let named = EMPTY;
@@ -123,19 +127,46 @@ fn a_body_of_another_hash_is_passed_over(rt: HostRuntime) -> Result<(), Fail> {
 
 // The line of a request, and its fields.
 const HOSTILE: [(&str, &str); 24] = [
-    ("GET /api/v1/blobs/game/af1349b9f5f9a1a6a0404dea36dcc9499bcb25c9\r\n", ""),
-    ("G(T /api/v1/blobs/game/af1349b9f5f9a1a6a0404dea36dcc9499bcb25c9 HTTP/1.1\r\n", ""),
-    ("DELETE /api/v1/blobs/game/af1349b9f5f9a1a6a0404dea36dcc9499bcb25c9 HTTP/1.1\r\n", ""),
-    ("GET /api/v1/blobs/game/af1349b9f5f9a1a6a0404dea36dcc9499bcb25c9?a=1 HTTP/1.1\r\n", ""),
-    ("GET /api/v1/blobs/ga/me/af1349b9f5f9a1a6a0404dea36dcc9499bcb25c9 HTTP/1.1\r\n", ""),
-    ("GET /api/v1/blobs/-game/af1349b9f5f9a1a6a0404dea36dcc9499bcb25c9 HTTP/1.1\r\n", ""),
-    ("GET /api/v1/blobs/game/af1349b9f5f9a1a6a0404dea36dcc9499bcb25c HTTP/1.1\r\n", ""),
-    ("GET /api/v2/blobs/game/af1349b9f5f9a1a6a0404dea36dcc9499bcb25c9 HTTP/1.1\r\n", ""),
+    (
+        "GET /api/v1/blobs/game/af1349b9f5f9a1a6a0404dea36dcc9499bcb25c9\r\n",
+        "",
+    ),
+    (
+        "G(T /api/v1/blobs/game/af1349b9f5f9a1a6a0404dea36dcc9499bcb25c9 HTTP/1.1\r\n",
+        "",
+    ),
+    (
+        "DELETE /api/v1/blobs/game/af1349b9f5f9a1a6a0404dea36dcc9499bcb25c9 HTTP/1.1\r\n",
+        "",
+    ),
+    (
+        "GET /api/v1/blobs/game/af1349b9f5f9a1a6a0404dea36dcc9499bcb25c9?a=1 HTTP/1.1\r\n",
+        "",
+    ),
+    (
+        "GET /api/v1/blobs/ga/me/af1349b9f5f9a1a6a0404dea36dcc9499bcb25c9 HTTP/1.1\r\n",
+        "",
+    ),
+    (
+        "GET /api/v1/blobs/-game/af1349b9f5f9a1a6a0404dea36dcc9499bcb25c9 HTTP/1.1\r\n",
+        "",
+    ),
+    (
+        "GET /api/v1/blobs/game/af1349b9f5f9a1a6a0404dea36dcc9499bcb25c HTTP/1.1\r\n",
+        "",
+    ),
+    (
+        "GET /api/v2/blobs/game/af1349b9f5f9a1a6a0404dea36dcc9499bcb25c9 HTTP/1.1\r\n",
+        "",
+    ),
     (GET_LINE, "Content-Length: 1\r\n"),
     (GET_LINE, "Content-Length: 00\r\n"),
     (GET_LINE, "Content-Length: 0\r\nContent-Length: 0\r\n"),
     (GET_LINE, "Transfer-Encoding: chunked\r\n"),
-    (GET_LINE, "X-Jupiter-IoHash: af1349b9f5f9a1a6a0404dea36dcc9499bcb25c9\r\n"),
+    (
+        GET_LINE,
+        "X-Jupiter-IoHash: af1349b9f5f9a1a6a0404dea36dcc9499bcb25c9\r\n",
+    ),
     (GET_LINE, "Accept: a\r\n b\r\n"),
     (GET_LINE, "Accept: a\0b\r\n"),
     (PUT_LINE, ""),
@@ -144,9 +175,18 @@ const HOSTILE: [(&str, &str); 24] = [
     (PUT_LINE, "Content-Length: +5\r\n"),
     (PUT_LINE, "Content-Length: 00000000000000000005\r\n"),
     (PUT_LINE, "Content-Length: 67108865\r\n"),
-    (PUT_LINE, "Content-Length: 0\r\nContent-Type: application/x-ue-comp\r\n"),
-    (PUT_LINE, "Content-Length: 0\r\nTransfer-Encoding: chunked\r\n"),
-    (PUT_LINE, "Content-Length: 0\r\nX-Jupiter-IoHash: af1349b9f5f9a1a6a0404dea36dcc9499bcb25c9\r\n"),
+    (
+        PUT_LINE,
+        "Content-Length: 0\r\nContent-Type: application/x-ue-comp\r\n",
+    ),
+    (
+        PUT_LINE,
+        "Content-Length: 0\r\nTransfer-Encoding: chunked\r\n",
+    ),
+    (
+        PUT_LINE,
+        "Content-Length: 0\r\nX-Jupiter-IoHash: af1349b9f5f9a1a6a0404dea36dcc9499bcb25c9\r\n",
+    ),
 ];
 
 #[test]
@@ -158,7 +198,11 @@ fn other_requests_end_the_reader(rt: HostRuntime) -> Result<(), Fail> {
         text.push_str("\r\n")?;
         for size in [1, 8_192] {
             let [first, second, _] = steps(rt.alloc(), text.as_bytes(), size, &[])?;
-            assert_eq!(rt; first, Step(Seen::Fault(HttpFault::Unread), 0), "{line}{fields}");
+            assert_eq!(rt;
+                first,
+                Step(Seen::Fault(HttpFault::Unread), 0),
+                "{line}{fields}"
+            );
             assert_eq!(rt; second, Step(Seen::NotCalled, 0), "{line}{fields}");
         }
     }
@@ -260,7 +304,9 @@ fn stated(bytes: &[u8], headers: &[HeaderSpan]) -> usize {
     for header in headers {
         if part(bytes, header.name) == b"Content-Length".as_slice() {
             for digit in part(bytes, header.value) {
-                size = size.saturating_mul(10).saturating_add(digit.wrapping_sub(b'0') as usize);
+                size = size
+                    .saturating_mul(10)
+                    .saturating_add(digit.wrapping_sub(b'0') as usize);
             }
         }
     }
@@ -296,7 +342,10 @@ fn plain_step(bytes: &[u8]) -> (Seen, usize) {
         Ok(Status::Complete(head)) => {
             let end = head.len.saturating_add(stated(bytes, &headers));
             match bytes.get(head.len..end) {
-                Some(body) => (asked(part(bytes, head.method), part(bytes, head.path), body), end),
+                Some(body) => (
+                    asked(part(bytes, head.method), part(bytes, head.path), body),
+                    end,
+                ),
                 None => (Seen::Fault(HttpFault::Cut), 0),
             }
         }
