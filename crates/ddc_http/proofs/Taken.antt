@@ -8,6 +8,7 @@ use Rattle.std.specs.Io.KnownBytes.{Keeps, Consumes, IsAtEnd, prepend_known}
 use Rattle.httparse.specs.Grammar.{RequestHead, print_request}
 use Rattle.httparse.proofs.GrammarLemmas.{request_unique}
 use Rattle.ddc_protocol.specs.declared.form.Form.{Form}
+use Rattle.ddc_protocol.proofs.Once.{behind_head}
 use Rattle.ddc_protocol.specs.Form.{form_of}
 use Rattle.ddc_protocol.specs.Requests.{IsHead, HasNoHead, body_length, Item, mismatch, item_of, Spells, IsCut, HasNoItem}
 use Rattle.ddc_names.specs.declared.hash.IoHash.{IoHash}
@@ -17,11 +18,7 @@ use Rattle.ddc_http.specs.declared.request.HttpFault.{HttpFault}
 use Rattle.ddc_http.specs.declared.request.HttpFault.TheVariants.{Unread, Cut, HashMismatch, ReadFailed, NoMemory}
 use Rattle.ddc_http.specs.Reader.{HeadAt, BodyAt, BodyAs, HasItem, StoresAs, Answers, asked, place_behind}
 
--- the head of a whole request, and what follows it in the bytes
-pub behind_head : (bytes text rest : List ℕ) (item : Item) (s : Spells text item) → bytes ≡ text ++ rest → bytes ≡ print_request s.head ++ (s.body ++ rest)
-behind_head bytes text rest item s e = e ∙ ap (λ l. l ++ rest) s.spelled ∙ append_assoc (print_request s.head) s.body rest
-
-no_item-without_head : (bytes : List ℕ) → HasNoHead bytes → HasNoItem bytes
+pub no_item-without_head : (bytes : List ℕ) → HasNoHead bytes → HasNoItem bytes
 no_item-without_head bytes none item text rest s e = none s.head (s.body ++ rest) s.is_head (behind_head bytes text rest item s e)
 
 -- a fact that holds unless the bytes have no whole request
@@ -182,3 +179,10 @@ body_stored before after left held space body named len size from to (Err Cut) h
 body_stored before after left held space body named len size from to (Err (HashMismatch expected found)) h c long place s = (take len held ++ body, spells held body len (Put space named size) (mismatch expected found) h long (ap (λ n. item_of (Put space named n) body) (sym long) ∙ s), c, place)
 body_stored before after left held space body named len size from to (Err ReadFailed) h c long place s = absurd s
 body_stored before after left held space body named len size from to (Err NoMemory) h c long place s = absurd s
+
+-- what is ahead stays where a piece of the source is held behind the rest
+pub keeps-more : (before left after : Option (List ℕ)) (held piece : List ℕ) → Keeps before (prepend_known held left) → Consumes left after piece → Keeps before (prepend_known (held ++ piece) after)
+keeps-more None left after held piece k c = tt
+keeps-more (Some x) None after held piece k c = absurd k
+keeps-more (Some x) (Some y) None held piece k c = absurd c
+keeps-more (Some x) (Some y) (Some z) held piece k c = append_assoc held piece z ∙ ap (λ l. held ++ l) (sym c) ∙ k

@@ -1,6 +1,5 @@
 -- What one call of the reader does to the bytes ahead of it.
-use Rattle.std.specs.Prelude.{◌≡◌, ℕ, ◌+◌, ◌-◌, ◌^◌, ◌≤◌, ◌<◌, min, Bool, true, false, List, [], ◌++◌, length, take, drop, Option, Some, None, IfSome, Result, Ok, Err, ⊤}
-use Rattle.std.specs.Io.{StartsWith}
+use Rattle.std.specs.Prelude.{◌==◌, ◌≡◌, ℕ, ◌+◌, ◌-◌, ◌^◌, ◌≤◌, ◌<◌, min, Bool, true, false, List, [], ◌++◌, length, take, drop, Option, Some, None, IfSome, Result, Ok, Err, ⊤}
 use Rattle.std.specs.Io.KnownBytes.{Consumes, Keeps, IsAtEnd}
 use Rattle.httparse.specs.Grammar.{RequestHead, IsRequestHead, print_request, HasNoRequest}
 use Rattle.httparse.specs.Spans.{RequestOverflows}
@@ -72,15 +71,19 @@ Takes before after from to item = (text : List ℕ) × Spells text item × Consu
 abbrev pub LosesPart : Option (List ℕ) → Option (List ℕ) → Type 0
 LosesPart before left = (part : List ℕ) × Consumes before left part × HasNoItem part
 
--- one more piece: the bytes ahead stay, and more of them are held, or the source is at its end
-abbrev pub FillsAs : Option (List ℕ) → Option (List ℕ) → Option (List ℕ) → List ℕ → List ℕ → Result Bool HttpFault → Type 0
-FillsAs before after left old new (Ok true) = Keeps before after × StartsWith new old
-FillsAs before after left old new (Ok false) = Keeps before after × IsAtEnd left × (new ≡ old)
-FillsAs before after left old new (Err ReadFailed) = Keeps before after × (new ≡ old)
-FillsAs before after left old new (Err NoMemory) = ⊤
-FillsAs before after left old new (Err Unread) = ⊥
-FillsAs before after left old new (Err Cut) = ⊥
-FillsAs before after left old new (Err (HashMismatch named found)) = ⊥
+abbrev pub is_line_feed : ℕ → Bool
+is_line_feed byte = byte == 10
+
+-- more pieces: the bytes ahead stay, and more of them are held; where no head can stand there yet, the source is at
+-- its end or has failed
+abbrev pub FillsAs : Option (List ℕ) → Option (List ℕ) → Option (List ℕ) → List ℕ → Result Bool HttpFault → Type 0
+FillsAs before after left held (Ok true) = Keeps before after
+FillsAs before after left held (Ok false) = Keeps before after × IsAtEnd left × HasNoHead held
+FillsAs before after left held (Err ReadFailed) = Keeps before after × HasNoItem held
+FillsAs before after left held (Err NoMemory) = ⊤
+FillsAs before after left held (Err Unread) = ⊥
+FillsAs before after left held (Err Cut) = ⊥
+FillsAs before after left held (Err (HashMismatch named found)) = ⊥
 
 -- the head at the front of what is held, or why there is none
 abbrev pub HeadsAs : Option (List ℕ) → Option (List ℕ) → Option (List ℕ) → List ℕ → Result (Option (ℕ × Form)) HttpFault → Type 0

@@ -7,7 +7,7 @@ use httparse::Status;
 use httparse::spans::{EMPTY_HEADER_SPAN, parse_request};
 
 /// The most bytes of a head.
-const MOST_HEAD: usize = 16_384;
+pub const MOST_HEAD: usize = 16_384;
 /// The most fields of a head.
 const MOST_FIELDS: usize = 64;
 

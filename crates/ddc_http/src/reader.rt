@@ -2,10 +2,10 @@
 ghost use Rattle.std.specs.Prelude.{◌≡◌, ◌≤◌, ◌<◌, ◌+◌, length, vec_len, drop, true};
 ghost use Rattle.std.specs.Io.KnownBytes.{prepend_known};
 ghost use Rattle.ddc_link.specs.Causes.{Rose};
-ghost use Rattle.ddc_protocol.specs.Requests.{HasNoItem};
+ghost use Rattle.ddc_protocol.specs.Requests.{HasNoHead};
 ghost use Rattle.ddc_http.specs.Reader.{FillsAs, HeadsAs, BodyAs, BodyAt, HasItem, StoresAs, Answers};
 
-use crate::head::{Found, find_head};
+use crate::head::{Found, MOST_HEAD, find_head};
 use crate::request::{Ask, HttpFault, Request};
 use ddc_link::Source;
 use ddc_names::{IoHash, Namespace};
@@ -18,21 +18,29 @@ const HEAD_PIECE: usize = 8_192;
 /// The most bytes of a body that one call takes from the source.
 const BODY_PIECE: usize = 65_536;
 
-// Holds one more piece of the source. False comes at the end.
+// Holds more of the source: up to a line feed, with which a head can end, or to the most bytes of a head. False comes
+// at the end of the source.
 fn fill<S: Source>(source: &mut S, held: &mut Vec<u8>) -> Result<bool, HttpFault>
-    requires { HasNoItem held.old.items }
-    ensures gives { FillsAs (prepend_known held.old.items (S.left source.old)) (prepend_known held.new.items (S.left source.new)) (S.left source.new) held.old.items held.new.items result }
+    requires { HasNoHead held.old.items }
+    ensures gives { FillsAs (prepend_known held.old.items (S.left source.old)) (prepend_known held.new.items (S.left source.new)) (S.left source.new) held.new.items result }
     ensures grows { result ≡ Ok true → length held.old.items < length held.new.items }
     ensures later { S.faults source.old ≤ S.faults source.new }
     ensures cause { result ≡ Err HttpFault.ReadFailed → Rose (S.faults source.old) (S.faults source.new) }
 {
-    let mut piece = [0; HEAD_PIECE];
-    match source.take(&mut piece) {
-        Err(_) => Err(HttpFault::ReadFailed),
-        Ok(count) => match held.extend_from_slice(&piece[..count]) {
-            Ok(()) => Ok(count > 0),
-            Err(_) => Err(HttpFault::NoMemory),
-        },
+    'pieces: loop {
+        let mut piece = [0; HEAD_PIECE];
+        let count = match source.take(&mut piece) {
+            Err(_) => return Err(HttpFault::ReadFailed),
+            Ok(0) => return Ok(false),
+            Ok(count) => count,
+        };
+        match held.extend_from_slice(&piece[..count]) {
+            Ok(()) => {}
+            Err(_) => return Err(HttpFault::NoMemory),
+        }
+        if piece[..count].contains(&b'\n') || held.len() >= MOST_HEAD {
+            return Ok(true);
+        }
     }
 }
 
