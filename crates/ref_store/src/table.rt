@@ -61,7 +61,12 @@ impl RefTable {
         ensures err { OnErr result (self.new ≡ self.old) }
         ensures only_for_a_new_name { OnErr result (map.get self.old name.now ≡ None) }
     {
-        self.slots.insert(Place::of(name), slot)?;
+        let RefName { space, spot } = *name;
+        let place = Place {
+            space,
+            spot: Some(spot),
+        };
+        self.slots.insert(place, slot)?;
         Ok(())
     }
 
