@@ -1,0 +1,166 @@
+-- What each command answers in a state, and the entry that it makes.
+use Rattle.std.specs.Prelude.{◌≡◌, ℕ, Bool, true, false, List, [], ◌∷◌, length, Option, None, Some, Result, Ok, Err, max, nat_lt, if◌then◌else◌}
+use Rattle.std.specs.FinMap.{FinMap, get, insert}
+use Rattle.ddc_names.specs.declared.hash.IoHash.{IoHash}
+use Rattle.ddc_names.specs.declared.reference.RefName.{RefName}
+use Rattle.ref_store.specs.declared.slot.Slot.{Slot}
+use Rattle.ddc_model.specs.declared.rows.Blob.{Blob}
+use Rattle.ddc_model.specs.declared.rows.BlobName.{BlobName}
+use Rattle.ddc_model.specs.declared.entry.Stored.{Stored}
+use Rattle.ddc_model.specs.declared.entry.Entry.{Entry}
+use Rattle.ddc_model.specs.declared.entry.Entry.TheVariants.{Space, Upload, Repin, Put, Finalise, Delete, Touch}
+use Rattle.ddc_model.specs.declared.fault.StoreFault.{StoreFault}
+use Rattle.ddc_model.specs.declared.fault.StoreFault.TheVariants.{UnknownSpace, NotFound, NotFinalised, NotPending}
+use Rattle.ddc_model.specs.Keys.{blob_cmp}
+use Rattle.ddc_model.specs.State.{State, blob_name, blob_at, has_space}
+use Rattle.ddc_model.specs.Entries.{after, is_hash, with_root}
+use Rattle.ddc_model.specs.Content.{Content, named}
+use Rattle.ddc_model.specs.Closure.{links_in, AreNeeds}
+use Rattle.ddc_model.specs.Counts.{full}
+use Rattle.ddc_model.specs.Sound.{Cache}
+
+-- the hour of an entry: the command's, or the state's where that is later
+abbrev pub hour_of : State → ℕ → ℕ
+hour_of s hour = max s.hour hour
+
+-- a blob of these contents
+abbrev pub stored : Content → Stored
+stored content = record { hash = named content.bytes; len = length content.bytes; start = 0; links = content.links }
+
+-- an entry, where the limits have room for it
+abbrev pub unless : {A : Type 0} → Option StoreFault → A → Result A StoreFault
+unless None made = Ok made
+unless (Some fault) made = Err fault
+
+abbrev pub with_room : State → Option Entry → Result (Option Entry) StoreFault
+with_room s (Some entry) = unless (full s entry) (Some entry)
+with_room s None = Ok None
+
+-- ---- storing a blob
+
+-- a blob that isn't there is added, and one that was stored or named at an earlier hour is pinned
+abbrev pub upload_where : Option Blob → List ℕ → Content → ℕ → Option Entry
+upload_where None space content hour = Some (Upload space (stored content) hour)
+upload_where (Some blob) space content hour = if nat_lt blob.row.at hour then Some (Repin space (named content.bytes) hour) else None
+
+abbrev pub upload : State → List ℕ → Content → ℕ → Result (Option Entry) StoreFault
+upload s space content hour =
+    if has_space s space then with_room s (upload_where (blob_at s space (named content.bytes)) space content (hour_of s hour)) else Err UnknownSpace
+
+-- ---- putting an object under a reference
+
+-- the blob of the object, where it isn't there
+abbrev pub fresh_where : Option Blob → Content → Option Stored
+fresh_where None content = Some (stored content)
+fresh_where (Some blob) content = None
+
+abbrev pub fresh_root : State → RefName → Content → Option Stored
+fresh_root s name content = fresh_where (blob_at s name.space (named content.bytes)) content
+
+-- the state in which the object is stored
+abbrev pub with_object : State → RefName → Content → ℕ → State
+with_object s name content hour = with_root s name.space (named content.bytes) (fresh_root s name content) (hour_of s hour)
+
+abbrev pub is_empty : {A : Type 0} → List A → Bool
+is_empty [] = true
+is_empty (x ∷ xs) = false
+
+-- the object is finalised at once where nothing is missing
+abbrev pub put_entry : State → RefName → Content → List IoHash → ℕ → Entry
+put_entry s name content needs hour = Put name (named content.bytes) (fresh_root s name content) (is_empty needs) (hour_of s hour)
+
+-- why a put is refused, whatever its object needs
+abbrev pub put_fault : State → RefName → Content → ℕ → Option StoreFault
+put_fault s name content hour = if has_space s name.space then full s (put_entry s name content [] hour) else Some UnknownSpace
+
+-- the answer is what is missing of the object, once it is stored
+abbrev pub PutWhere : Option StoreFault → State → RefName → Content → ℕ → Result (List IoHash) StoreFault → Option Entry → Type 0
+PutWhere (Some fault) s name content hour answer made = (answer ≡ Err fault) × (made ≡ None)
+PutWhere None s name content hour answer made =
+    (needs : List IoHash) × AreNeeds (links_in (with_object s name content hour) name.space) (named content.bytes) needs × (answer ≡ Ok needs) × (made ≡ Some (put_entry s name content needs hour))
+
+abbrev pub PutAs : State → RefName → Content → ℕ → Result (List IoHash) StoreFault → Option Entry → Type 0
+PutAs s name content hour answer made = PutWhere (put_fault s name content hour) s name content hour answer made
+
+-- ---- finalising a reference
+
+-- whether the object is finalised already (true) or pending (false)
+abbrev pub is_done_at : Option Slot → IoHash → Result Bool StoreFault
+is_done_at None hash = Err NotFound
+is_done_at (Some slot) hash = if is_hash slot.done hash then Ok true else if is_hash slot.pending hash then Ok false else Err NotPending
+
+abbrev pub is_done : State → RefName → IoHash → Result Bool StoreFault
+is_done s name hash = if has_space s name.space then is_done_at (get s.slots name) hash else Err UnknownSpace
+
+abbrev pub finalise_entry : State → RefName → IoHash → List IoHash → ℕ → Option Entry
+finalise_entry s name hash needs hour = if is_empty needs then Some (Finalise name hash (hour_of s hour)) else None
+
+-- the answer is what is missing of a pending object, which is finalised where that is nothing
+abbrev pub FinaliseWhere : Result Bool StoreFault → State → RefName → IoHash → ℕ → Result (List IoHash) StoreFault → Option Entry → Type 0
+FinaliseWhere (Err fault) s name hash hour answer made = (answer ≡ Err fault) × (made ≡ None)
+FinaliseWhere (Ok true) s name hash hour answer made = (answer ≡ Ok []) × (made ≡ None)
+FinaliseWhere (Ok false) s name hash hour answer made =
+    (needs : List IoHash) × AreNeeds (links_in s name.space) hash needs × (answer ≡ Ok needs) × (made ≡ finalise_entry s name hash needs hour)
+
+abbrev pub FinaliseAs : State → RefName → IoHash → ℕ → Result (List IoHash) StoreFault → Option Entry → Type 0
+FinaliseAs s name hash hour answer made = FinaliseWhere (is_done s name hash) s name hash hour answer made
+
+-- ---- fetching
+
+-- the finalised object of a reference
+abbrev pub done_hash : Option IoHash → Result IoHash StoreFault
+done_hash (Some hash) = Ok hash
+done_hash None = Err NotFinalised
+
+abbrev pub done_at : Option Slot → Result IoHash StoreFault
+done_at (Some slot) = done_hash slot.done
+done_at None = Err NotFound
+
+abbrev pub object_of : State → RefName → Result IoHash StoreFault
+object_of s name = if has_space s name.space then done_at (get s.slots name) else Err UnknownSpace
+
+-- a reference that was read at an earlier hour is touched
+abbrev pub touch_where : Option Slot → RefName → ℕ → Option Entry
+touch_where (Some slot) name hour = if nat_lt slot.seen hour then Some (Touch name hour) else None
+touch_where None name hour = None
+
+abbrev pub touch_entry : State → RefName → ℕ → Option Entry
+touch_entry s name hour = touch_where (get s.slots name) name (hour_of s hour)
+
+-- the answer is the hash and the bytes of the finalised object
+abbrev pub GetWhere : Result IoHash StoreFault → Cache → RefName → ℕ → Result (IoHash × List ℕ) StoreFault → Option Entry → Type 0
+GetWhere (Err fault) cache name hour answer made = (answer ≡ Err fault) × (made ≡ None)
+GetWhere (Ok hash) cache name hour answer made =
+    (bytes : List ℕ) × (get cache.bytes (blob_name name.space hash) ≡ Some bytes) × (answer ≡ Ok (hash, bytes)) × (made ≡ touch_entry cache.index name hour)
+
+abbrev pub GetAs : Cache → RefName → ℕ → Result (IoHash × List ℕ) StoreFault → Option Entry → Type 0
+GetAs cache name hour answer made = GetWhere (object_of cache.index name) cache name hour answer made
+
+-- the bytes of a blob
+abbrev pub found : {A : Type 0} → Option A → Result A StoreFault
+found (Some x) = Ok x
+found None = Err NotFound
+
+abbrev pub fetch : Cache → List ℕ → IoHash → Result (List ℕ) StoreFault
+fetch cache space hash = if has_space cache.index space then found (get cache.bytes (blob_name space hash)) else Err UnknownSpace
+
+-- ---- what a command leaves
+
+-- the bytes of a blob that an entry adds are those of its command
+abbrev pub kept_where : FinMap blob_cmp (List ℕ) → List ℕ → Option Stored → List ℕ → FinMap blob_cmp (List ℕ)
+kept_where all space (Some blob) bytes = insert all (blob_name space blob.hash) bytes
+kept_where all space None bytes = all
+
+abbrev pub kept : FinMap blob_cmp (List ℕ) → Entry → List ℕ → FinMap blob_cmp (List ℕ)
+kept all (Space space ttl pin) bytes = all
+kept all (Upload space blob hour) bytes = kept_where all space (Some blob) bytes
+kept all (Repin space hash hour) bytes = all
+kept all (Put name root fresh whole hour) bytes = kept_where all name.space fresh bytes
+kept all (Finalise name hash hour) bytes = all
+kept all (Delete name hour) bytes = all
+kept all (Touch name hour) bytes = all
+
+-- the state and the bytes after the entry of a command with these bytes, where it makes one
+abbrev pub changed : Cache → List ℕ → Option Entry → Cache
+changed cache bytes (Some entry) = record { index = after cache.index entry; bytes = kept cache.bytes entry bytes }
+changed cache bytes None = cache

@@ -1,0 +1,74 @@
+-- What the limits of a store count, and which entries would pass one.
+use Rattle.std.specs.Prelude.{ℕ, ◌+◌, Bool, ◌&&◌, List, [], ◌∷◌, length, Option, None, Some, is_some, nat_lt, if◌then◌else◌}
+use Rattle.std.specs.FinMap.{get, len, entries}
+use Rattle.ddc_model.specs.declared.rows.Blob.{Blob}
+use Rattle.ddc_model.specs.declared.rows.BlobName.{BlobName}
+use Rattle.ddc_model.specs.declared.entry.Stored.{Stored}
+use Rattle.ddc_model.specs.declared.entry.Entry.{Entry}
+use Rattle.ddc_model.specs.declared.entry.Entry.TheVariants.{Space, Upload, Repin, Put, Finalise, Delete, Touch}
+use Rattle.ddc_model.specs.declared.fault.StoreFault.{StoreFault}
+use Rattle.ddc_model.specs.declared.fault.StoreFault.TheVariants.{Full}
+use Rattle.ddc_model.specs.declared.fault.What.TheVariants.{Spaces, Blobs, Refs, Links}
+use Rattle.ddc_model.specs.State.{State, has_space}
+
+-- how many links these blobs have in all
+abbrev pub links_of_all : List (BlobName × Blob) → ℕ
+links_of_all [] = 0
+links_of_all (e ∷ es) = length e.1.links + links_of_all es
+
+-- how many links all blobs have
+abbrev pub link_count : State → ℕ
+link_count s = links_of_all (entries s.blobs)
+
+-- the blob that an entry adds
+abbrev pub fresh_of : Entry → Option Stored
+fresh_of (Space space ttl pin) = None
+fresh_of (Upload space blob hour) = Some blob
+fresh_of (Repin space hash hour) = None
+fresh_of (Put name root fresh whole hour) = fresh
+fresh_of (Finalise name hash hour) = None
+fresh_of (Delete name hour) = None
+fresh_of (Touch name hour) = None
+
+abbrev pub added_blobs : Option Stored → ℕ
+added_blobs (Some blob) = 1
+added_blobs None = 0
+
+abbrev pub added_links : Option Stored → ℕ
+added_links (Some blob) = length blob.links
+added_links None = 0
+
+-- one where it isn't there yet
+abbrev pub added : Bool → ℕ
+added there = if there then 0 else 1
+
+abbrev pub added_spaces : State → Entry → ℕ
+added_spaces s (Space space ttl pin) = added (has_space s space)
+added_spaces s (Upload space blob hour) = 0
+added_spaces s (Repin space hash hour) = 0
+added_spaces s (Put name root fresh whole hour) = 0
+added_spaces s (Finalise name hash hour) = 0
+added_spaces s (Delete name hour) = 0
+added_spaces s (Touch name hour) = 0
+
+abbrev pub added_refs : State → Entry → ℕ
+added_refs s (Space space ttl pin) = 0
+added_refs s (Upload space blob hour) = 0
+added_refs s (Repin space hash hour) = 0
+added_refs s (Put name root fresh whole hour) = added (is_some (get s.slots name))
+added_refs s (Finalise name hash hour) = 0
+added_refs s (Delete name hour) = 0
+added_refs s (Touch name hour) = 0
+
+-- the number is raised, and past the limit
+abbrev pub passes : ℕ → ℕ → ℕ → Bool
+passes count more limit = nat_lt 0 more && nat_lt limit (count + more)
+
+-- the first limit that an entry would pass
+abbrev pub full : State → Entry → Option StoreFault
+full s entry =
+    if passes (len s.spaces) (added_spaces s entry) s.limits.spaces then Some (Full Spaces s.limits.spaces) else
+    if passes (len s.blobs) (added_blobs (fresh_of entry)) s.limits.blobs then Some (Full Blobs s.limits.blobs) else
+    if passes (len s.slots) (added_refs s entry) s.limits.refs then Some (Full Refs s.limits.refs) else
+    if passes (link_count s) (added_links (fresh_of entry)) s.limits.links then Some (Full Links s.limits.links) else
+    None

@@ -1,0 +1,10 @@
+pub mod Keys
+pub mod Limits
+pub mod State
+pub mod Entries
+pub mod Content
+pub mod Closure
+pub mod Sound
+pub mod Counts
+pub mod Commands
+pub mod Laws

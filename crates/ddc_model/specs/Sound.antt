@@ -1,0 +1,34 @@
+-- When a state and the bytes of its blobs are sound.
+use Rattle.std.specs.Prelude.{◌≡◌, ℕ, Bool, List, length, Option, Some, IsSome}
+use Rattle.std.specs.FinMap.{FinMap, get, empty}
+use Rattle.ddc_names.specs.declared.hash.IoHash.{IoHash}
+use Rattle.ddc_names.specs.declared.reference.RefName.{RefName}
+use Rattle.ref_store.specs.declared.slot.Slot.{Slot}
+use Rattle.ddc_model.specs.declared.rows.Blob.{Blob}
+use Rattle.ddc_model.specs.declared.rows.BlobName.{BlobName}
+use Rattle.ddc_model.specs.declared.rows.Limits.{Limits}
+use Rattle.ddc_model.specs.Keys.{blob_cmp}
+use Rattle.ddc_model.specs.State.{State, empty_state}
+use Rattle.ddc_model.specs.Content.{IsRead, named}
+use Rattle.ddc_model.specs.Closure.{links_in, IsWhole}
+
+-- a state, and the bytes of each blob
+pub record Cache : Type 0 where
+  pub index : State
+  pub bytes : FinMap blob_cmp (List ℕ)
+
+abbrev pub empty_cache : Limits → Cache
+empty_cache limits = record { index = empty_state limits; bytes = empty }
+
+-- the blob's bytes have the hash that names it, and its length and links are theirs
+pub record IsBlobOf (name : BlobName) (blob : Blob) (bytes : List ℕ) : Type 0 where
+  pub hash : name.hash ≡ named bytes
+  pub length_is : blob.row.len ≡ length bytes
+  pub is_object : Bool
+  pub links : IsRead bytes is_object blob.links
+
+-- each blob has its bytes; and of each finalised object the whole closure is there
+pub record IsSound (cache : Cache) : Type 0 where
+  pub blobs : (name : BlobName) (blob : Blob) → get cache.index.blobs name ≡ Some blob → (bytes : List ℕ) × (get cache.bytes name ≡ Some bytes) × IsBlobOf name blob bytes
+  pub none_else : (name : BlobName) (bytes : List ℕ) → get cache.bytes name ≡ Some bytes → IsSome (get cache.index.blobs name)
+  pub whole : (name : RefName) (slot : Slot) (hash : IoHash) → get cache.index.slots name ≡ Some slot → slot.done ≡ Some hash → IsWhole (links_in cache.index name.space) hash

@@ -1,0 +1,16 @@
+//! What a store of the cache holds and how it changes, as definitions on finite maps.
+//!
+//! `specs/` has the state, which entries are legal in it and what each leaves, the closure of an
+//! object over its attachments, and what each command answers. The types here are those that the
+//! definitions speak of, and nothing here runs but the constants.
+#![tactic(auto)]
+
+mod entry;
+mod fault;
+mod laws;
+mod rows;
+
+pub use entry::{Entry, Stored};
+pub use fault::{StoreFault, What};
+pub use laws::{one_content, one_list_of_needs, whole_stays_whole};
+pub use rows::{Blob, BlobName, BlobRow, Extent, Limits, SpaceRow};
