@@ -61,7 +61,7 @@ itself x ys = first (io_hash_cmp x x) (io_hash_total.antisymm x x) where
   first Equal e = refl
   first Greater e = absurd (cc)
 
-SameHashes : List IoHash → List IoHash → Type 0
+abbrev SameHashes : List IoHash → List IoHash → Type 0
 SameHashes xs ys = (hash : IoHash) → has_hash xs hash ≡ has_hash ys hash
 
 is_not : (b : Bool) → b ≡ true → b ≡ false → ⊥
@@ -82,19 +82,19 @@ pub same_lists : (xs ys : List IoHash) → IsStrictlySortedBy io_hash_cmp xs →
 same_lists [] [] s t same = refl
 same_lists [] (y ∷ ys) s t same = absurd (is_not _ (itself y ys) (sym (same y)))
 same_lists (x ∷ xs) [] s t same = absurd (is_not _ (itself x xs) (same x))
-same_lists (x ∷ xs) (y ∷ ys) s t same = split (io_hash_cmp x y) refl where
-  split : (o : Ordering) → io_hash_cmp x y ≡ o → x ∷ xs ≡ y ∷ ys
-  split Less e = absurd (is_not _ (itself x xs) (same x ∙ neither _ _ (less_is_no_tie _ e) (below_all x ys (lower x y ys e (sorted_head io_hash_cmp y ys t)))))
-  split Greater e =
+same_lists (x ∷ xs) (y ∷ ys) s t same = split (io_hash_cmp x y) refl (same_lists xs ys (sorted_tail io_hash_cmp x xs s) (sorted_tail io_hash_cmp y ys t)) where
+  split : (o : Ordering) → io_hash_cmp x y ≡ o → (SameHashes xs ys → xs ≡ ys) → x ∷ xs ≡ y ∷ ys
+  split Less e rest = absurd (is_not _ (itself x xs) (same x ∙ neither _ _ (less_is_no_tie _ e) (below_all x ys (lower x y ys e (sorted_head io_hash_cmp y ys t)))))
+  split Greater e rest =
       let f : io_hash_cmp y x ≡ Less = io_hash_total.antisymm y x ∙ ap ordering_reverse e in
       absurd (is_not _ (itself y ys) (sym (same y) ∙ neither _ _ (less_is_no_tie _ f) (below_all y xs (lower y x xs f (sorted_head io_hash_cmp x xs s)))))
-  split Equal e =
+  split Equal e rest =
       let first : x ≡ y = io_hash_exact x y e in
       let behind : SameHashes xs ys = same_behind x xs ys (sorted_head io_hash_cmp x xs s)
           (subst (λ (h : IoHash). AllByRecursion (λ z. io_hash_cmp h z ≡ Less) ys) (sym first) (sorted_head io_hash_cmp y ys t))
           (subst (λ (h : IoHash). SameHashes (x ∷ xs) (h ∷ ys)) (sym first) same) in
-      let rest : xs ≡ ys = same_lists xs ys (sorted_tail io_hash_cmp x xs s) (sorted_tail io_hash_cmp y ys t) behind in
-      λ i. first i ∷ rest i
+      let behind_both : xs ≡ ys = rest behind in
+      λ i. first i ∷ behind_both i
 
 pub needs_once : OneListOfNeeds
 needs_once links root needs others a b = same_lists needs others a.ascending b.ascending
@@ -108,7 +108,7 @@ no_some o x e f = let g : None ≡ Some x = sym e ∙ f in cc
 module _ (links others : Links) (root new : IoHash) (none : links new ≡ None) (same : (hash : IoHash) → (hash ≡ new → ⊥) → others hash ≡ links hash) (whole : IsWhole links root) where
   -- what is reached isn't the blob that is new
   not_new : (node : Link) → IsReached links root node → node.hash ≡ new → ⊥
-  not_new node reached e = whole node.hash (ap links e ∙ none, (node.kind, reached))
+  not_new node reached e = whole node.hash (ap links e ∙ none, node.kind, reached)
 
   walk_back : (node : Link) (n : ℕ) → Walk others (object root) node n → Walk links (object root) node n
   walk_back node zero w = w
@@ -122,7 +122,7 @@ module _ (links others : Links) (root new : IoHash) (none : links new ≡ None) 
   still_whole hash missing =
       let node : Link = record { kind = missing.1; hash = hash } in
       let reached : IsReached links root node = (missing.2.0, walk_back node missing.2.0 missing.2.1) in
-      whole hash (sym (same hash (not_new node reached)) ∙ missing.0, (missing.1, reached))
+      whole hash (sym (same hash (not_new node reached)) ∙ missing.0, missing.1, reached)
 
 pub whole_stays : WholeStaysWhole
 whole_stays links others root new none same whole = still_whole links others root new none same whole
