@@ -1,5 +1,5 @@
 -- What an object reaches over its attachments, and what of that is missing.
-use Rattle.std.specs.Prelude.{◌≡◌, ℕ, zero, suc, Bool, List, [], Option, None, Some, IsTrue, ◌↔◌, option_map}
+use Rattle.std.specs.Prelude.{◌≡◌, ℕ, zero, suc, Bool, List, [], Option, None, Some, IsTrue, ◌↔◌, option_map, if◌then◌else◌}
 use Rattle.std.specs.List.{Contains, list_any}
 use Rattle.std.specs.BTreeMap.{is_at}
 use Rattle.std.specs.List.Sorted.{IsStrictlySortedBy}
@@ -17,6 +17,10 @@ Links = IoHash → Option (List Link)
 -- the links of the blobs of a namespace
 abbrev pub links_in : State → List ℕ → Links
 links_in s space hash = option_map (λ blob. blob.links) (blob_at s space hash)
+
+-- the same with a blob of this hash, which has these links
+abbrev pub with_links : Links → IoHash → List Link → Links
+with_links links hash found other = if is_at (io_hash_cmp hash) other then Some found else links other
 
 abbrev pub object : IoHash → Link
 object hash = record { kind = Object; hash = hash }
