@@ -7,8 +7,15 @@ use Rattle.std.proofs.lemmas.Str.Ascii.{IsAscii-cons, IsAscii-nil}
 use Rattle.httparse.proofs.OpenLemmas.{letter_is_token}
 use Rattle.httparse.specs.Grammar.{RequestHead, print_request, is_token_byte, is_uri_byte, lf}
 use Rattle.httparse.proofs.GrammarLemmas.{request_unique, print_request-append}
+use Rattle.std.specs.Prelude.{Bool, false}
+use Rattle.cb_fields.specs.Language.{IsObject}
+use Rattle.cb_fields.proofs.Laws.{fault_is_no_object, one_fault}
+use Rattle.ddc_model.specs.Content.{Content, IsContent, IsRead}
+use Rattle.ddc_model.proofs.Once.{content_once}
+use Rattle.ddc_protocol.specs.declared.form.Form.{Form}
+use Rattle.ddc_protocol.specs.declared.form.Form.TheVariants.{PutBlob, GetBlob, PutRef, GetRef, Finalise}
 use Rattle.ddc_protocol.specs.Form.{form_of}
-use Rattle.ddc_protocol.specs.Requests.{IsHead, body_length, Item, item_of, Spells, IsUnread, IsCut, HasNoItem, Begins, End, closed, cut, unread, spent, most_items, EndsAs, Cuts}
+use Rattle.ddc_protocol.specs.Requests.{IsHead, body_length, Item, put_blob, put_ref, not_object, Asks, stores, mismatches, fetches, puts, breaks, reads, finalises, Spells, IsUnread, IsCut, HasNoItem, Begins, End, closed, cut, unread, spent, most_items, EndsAs, Cuts}
 use Rattle.ddc_protocol.specs.Laws.{SameEnd, same, hopeless_cut, hopeless_unread, OneCut}
 
 pub record SameItem (r q : List ℕ) (i j : Item) : Type 0 where
@@ -18,6 +25,24 @@ pub record SameItem (r q : List ℕ) (i j : Item) : Type 0 where
 -- the head of a whole request, and what follows it in the bytes
 pub behind_head : (bytes text rest : List ℕ) (item : Item) (s : Spells text item) → bytes ≡ text ++ rest → bytes ≡ print_request s.head ++ (s.body ++ rest)
 behind_head bytes text rest item s e = e ∙ ap (λ l. l ++ rest) s.spelled ∙ append_assoc (print_request s.head) s.body rest
+
+-- the bytes of contents that are an object are one
+object_at : (content : Content) (body : List ℕ) → content.bytes ≡ body → IsContent content → content.is_object ≡ true → IsObject body content.links
+object_at content body e k o = subst (λ (bytes : List ℕ). IsObject bytes content.links) e (subst (λ (b : Bool). IsRead content.bytes b content.links) o k)
+
+-- one form and one body ask one thing
+asks_once : (form : Form) (body : List ℕ) (item other : Item) → Asks body form item → Asks body form other → item ≡ other
+asks_once (PutBlob space hash size) body _ _ (stores c e k t) (stores d f l u) = ap (put_blob space) (content_once c d (e ∙ sym f) k l)
+asks_once (PutBlob space hash size) body _ _ (stores c e k t) (mismatches u) = absurd (let g : true ≡ false = sym t ∙ u in cc)
+asks_once (PutBlob space hash size) body _ _ (mismatches t) (stores d f l u) = absurd (let g : true ≡ false = sym u ∙ t in cc)
+asks_once (PutBlob space hash size) body _ _ (mismatches t) (mismatches u) = refl
+asks_once (GetBlob space hash) body _ _ fetches fetches = refl
+asks_once (PutRef name size) body _ _ (puts c e k o) (puts d f l p) = ap (put_ref name) (content_once c d (e ∙ sym f) k l)
+asks_once (PutRef name size) body _ _ (puts c e k o) (breaks {at = at} h) = absurd (fault_is_no_object body at h c.links (object_at c body e k o))
+asks_once (PutRef name size) body _ _ (breaks {at = at} h) (puts d f l p) = absurd (fault_is_no_object body at h d.links (object_at d body f l p))
+asks_once (PutRef name size) body _ _ (breaks {at = a} h) (breaks {at = b} g) = ap not_object (one_fault body a b h g)
+asks_once (GetRef name) body _ _ reads reads = refl
+asks_once (Finalise name hash) body _ _ finalises finalises = refl
 
 pub spells_unique : (t u r q : List ℕ) (i j : Item) → Spells t i → Spells u j → t ++ r ≡ u ++ q → SameItem r q i j
 spells_unique t u r q i j s z e =
@@ -30,7 +55,7 @@ spells_unique t u r q i j s z e =
     let bodies : s.body ≡ z.body = sym (take_at s.body r (length s.body) refl) ∙ ap (take (length s.body)) same.1 ∙ take_at z.body q (length s.body) long in
     record {
       rest = sym (drop_at s.body r (length s.body) refl) ∙ ap (drop (length s.body)) same.1 ∙ drop_at z.body q (length s.body) long;
-      item = s.same ∙ ap (λ f. item_of f s.body) forms ∙ ap (item_of z.form) bodies ∙ sym z.same;
+      item = asks_once z.form z.body i j (subst (λ (b : List ℕ). Asks b z.form i) bodies (subst (λ (f : Form). Asks s.body f i) forms s.item_is)) z.item_is;
     }
 
 -- a request has a head, which has a byte

@@ -1,10 +1,13 @@
 -- How a list of bytes is cut into requests (RFC 9112, section 2), up to the end of a stream.
-use Rattle.std.specs.Prelude.{◌≡◌, ◌⊎◌, ℕ, ◌<◌, ◌≤◌, ◌+◌, List, [], ◌∷◌, ◌++◌, length, Some, None, if◌then◌else◌}
+use Rattle.std.specs.Prelude.{◌≡◌, ◌⊎◌, ℕ, ◌<◌, ◌≤◌, ◌+◌, true, false, List, [], ◌∷◌, ◌++◌, length, Some, None}
 use Rattle.httparse.specs.Grammar.{RequestHead, IsRequestHead, print_request}
 use Rattle.ddc_names.specs.declared.hash.IoHash.{IoHash}
+use Rattle.ddc_names.specs.declared.reference.RefName.{RefName}
 use Rattle.tree_hash.specs.TreeHash.{io}
+use Rattle.cb_fields.specs.Fault.{FaultAt}
+use Rattle.ddc_model.specs.Content.{Content, IsContent, named}
 use Rattle.ddc_protocol.specs.declared.form.Form.{Form}
-use Rattle.ddc_protocol.specs.declared.form.Form.TheVariants.{Put, Get}
+use Rattle.ddc_protocol.specs.declared.form.Form.TheVariants.{PutBlob, GetBlob, PutRef, GetRef, Finalise}
 use Rattle.ddc_protocol.specs.Fields.{same_text}
 use Rattle.ddc_protocol.specs.Form.{form_of}
 
@@ -24,24 +27,34 @@ NeverHasHead bytes = (more : List ℕ) → HasNoHead (bytes ++ more)
 
 -- how many bytes follow the head
 abbrev pub body_length : Form → ℕ
-body_length (Put space hash size) = size
-body_length (Get space hash) = 0
+body_length (PutBlob space hash size) = size
+body_length (GetBlob space hash) = 0
+body_length (PutRef name size) = size
+body_length (GetRef name) = 0
+body_length (Finalise name hash) = 0
 
--- the hash that names these bytes
-abbrev pub named : List ℕ → IoHash
-named bytes = record { 0 = io bytes }
-
--- what is answered before the next request is read: a blob to store or to fetch, or a body that
--- has another hash than the one that was named
+-- what is answered before the next request is read: a blob to store or to fetch, an object to put under a reference, to
+-- fetch or to finalise there, a body that has another hash than the one that was named, or one that is no object and
+-- breaks its rules at this place
 pub data Item : Type 0 where
-  put : (space bytes : List ℕ) → Item
-  get : (space : List ℕ) (hash : IoHash) → Item
+  put_blob : (space : List ℕ) (content : Content) → Item
+  get_blob : (space : List ℕ) (hash : IoHash) → Item
+  put_ref : (name : RefName) (content : Content) → Item
+  get_ref : (name : RefName) → Item
+  finalise : (name : RefName) (hash : IoHash) → Item
   mismatch : (expected found : IoHash) → Item
+  not_object : (at : ℕ) → Item
 
--- a body is stored only under its own hash
-abbrev pub item_of : Form → List ℕ → Item
-item_of (Put space hash size) body = if same_text (io body) hash.0 then put space body else mismatch hash (named body)
-item_of (Get space hash) body = get space hash
+-- what a head of this form asks with this body. A blob is stored only under its own hash, and only an object is put
+-- under a reference
+pub data Asks (body : List ℕ) : Form → Item → Type 0 where
+  stores : {space : List ℕ} {hash : IoHash} {size : ℕ} (content : Content) → content.bytes ≡ body → IsContent content → same_text (io body) hash.0 ≡ true → Asks body (PutBlob space hash size) (put_blob space content)
+  mismatches : {space : List ℕ} {hash : IoHash} {size : ℕ} → same_text (io body) hash.0 ≡ false → Asks body (PutBlob space hash size) (mismatch hash (named body))
+  fetches : {space : List ℕ} {hash : IoHash} → Asks body (GetBlob space hash) (get_blob space hash)
+  puts : {name : RefName} {size : ℕ} (content : Content) → content.bytes ≡ body → IsContent content → content.is_object ≡ true → Asks body (PutRef name size) (put_ref name content)
+  breaks : {name : RefName} {size at : ℕ} → FaultAt body at → Asks body (PutRef name size) (not_object at)
+  reads : {name : RefName} → Asks body (GetRef name) (get_ref name)
+  finalises : {name : RefName} {hash : IoHash} → Asks body (Finalise name hash) (finalise name hash)
 
 -- the text is one whole request, and the item is what it asks
 pub record Spells (text : List ℕ) (item : Item) : Type 0 where
@@ -52,7 +65,7 @@ pub record Spells (text : List ℕ) (item : Item) : Type 0 where
   pub asks : form_of head ≡ Some form
   pub whole : length body ≡ body_length form
   pub spelled : text ≡ print_request head ++ body
-  pub same : item ≡ item_of form body
+  pub item_is : Asks body form item
 
 -- the bytes begin with a head that is of no form
 pub record HasNoForm (bytes : List ℕ) : Type 0 where
