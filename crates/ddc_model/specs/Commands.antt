@@ -10,7 +10,7 @@ use Rattle.ddc_model.specs.declared.entry.Stored.{Stored}
 use Rattle.ddc_model.specs.declared.entry.Entry.{Entry}
 use Rattle.ddc_model.specs.declared.entry.Entry.TheVariants.{Space, Upload, Repin, Put, Finalise, Delete, Touch}
 use Rattle.ddc_model.specs.declared.fault.StoreFault.{StoreFault}
-use Rattle.ddc_model.specs.declared.fault.StoreFault.TheVariants.{UnknownSpace, NotFound, NotFinalised, NotPending}
+use Rattle.ddc_model.specs.declared.fault.StoreFault.TheVariants.{UnknownSpace, NotFound, NotFinalised, NotPending, Full, NoMemory}
 use Rattle.ddc_model.specs.Keys.{blob_cmp}
 use Rattle.ddc_model.specs.State.{State, blob_name, blob_at, has_space}
 use Rattle.ddc_model.specs.Entries.{after, is_hash, with_root}
@@ -43,9 +43,16 @@ abbrev pub upload_where : Option Blob → List ℕ → Content → ℕ → Optio
 upload_where None space content hour = Some (Upload space (stored content) hour)
 upload_where (Some blob) space content hour = if nat_lt blob.row.at hour then Some (Repin space (named content.bytes) hour) else None
 
-abbrev pub upload : State → List ℕ → Content → ℕ → Result (Option Entry) StoreFault
-upload s space content hour =
+abbrev pub upload_entry : State → List ℕ → Content → ℕ → Result (Option Entry) StoreFault
+upload_entry s space content hour =
     if has_space s space then with_room s (upload_where (blob_at s space (named content.bytes)) space content (hour_of s hour)) else Err UnknownSpace
+
+abbrev pub UploadWhere : Result (Option Entry) StoreFault → Result (Unit {0}) StoreFault → Option Entry → Type 0
+UploadWhere (Ok entry) answer made = (answer ≡ Ok tt) × (made ≡ entry)
+UploadWhere (Err fault) answer made = (answer ≡ Err fault) × (made ≡ None)
+
+abbrev pub UploadAs : State → List ℕ → Content → ℕ → Result (Unit {0}) StoreFault → Option Entry → Type 0
+UploadAs s space content hour answer made = UploadWhere (upload_entry s space content hour) answer made
 
 -- ---- putting an object under a reference
 
@@ -164,3 +171,16 @@ kept all (Touch name hour) bytes = all
 abbrev pub changed : Cache → List ℕ → Option Entry → Cache
 changed cache bytes (Some entry) = record { index = after cache.index entry; bytes = kept cache.bytes entry bytes }
 changed cache bytes None = cache
+
+abbrev pub Makes : {A : Type 0} → Cache → List ℕ → Cache → (Result A StoreFault → Option Entry → Type 0) → Result A StoreFault → Type 0
+Makes cache bytes next Answers answer = (made : Option Entry) × Answers answer made × (next ≡ changed cache bytes made)
+
+-- a command with these bytes gives its answer and makes its entry; for want of memory it changes nothing
+abbrev pub Gives : {A : Type 0} → Cache → List ℕ → Cache → (Result A StoreFault → Option Entry → Type 0) → Result A StoreFault → Type 0
+Gives cache bytes next Answers (Ok value) = Makes cache bytes next Answers (Ok value)
+Gives cache bytes next Answers (Err UnknownSpace) = Makes cache bytes next Answers (Err UnknownSpace)
+Gives cache bytes next Answers (Err NotFound) = Makes cache bytes next Answers (Err NotFound)
+Gives cache bytes next Answers (Err NotFinalised) = Makes cache bytes next Answers (Err NotFinalised)
+Gives cache bytes next Answers (Err NotPending) = Makes cache bytes next Answers (Err NotPending)
+Gives cache bytes next Answers (Err (Full what limit)) = Makes cache bytes next Answers (Err (Full what limit))
+Gives cache bytes next Answers (Err NoMemory) = next ≡ cache
