@@ -31,5 +31,5 @@ long_page rows kept all last count d some front more parts empty =
     let is : kept ≡ take count all = kept_rows rows kept all last count front more parts empty in
     let longer : count < length all = omega (arith, more, ap length front, length-take (count + 1) all) in
     let next : Some (slice_index_or kept (count - 1) d).spot ≡ cond (nat_lt count (length all)) (option_map (λ row. row.spot) (slice_get all (count - 1))) None =
-        last_spot kept all count d some longer is ∙ sym (ap (λ b. cond b (option_map (λ (row : RefRow). row.spot) (slice_get all (count - 1))) None) (lt-ltb count (length all) longer)) in
+    last_spot kept all count d some longer is ∙ sym (ap (λ b. cond b (option_map (λ (row : RefRow). row.spot) (slice_get all (count - 1))) None) (lt-ltb count (length all) longer)) in
     λ i. record { rows = is i; next = next i }
