@@ -77,31 +77,35 @@ fn a_table_is_a_map_from_names_to_slots(rt: HostRuntime) -> Result<(), Fail> {
     Ok(())
 }
 
+fn maybe_spot(place: Option<(&str, u8)>) -> Result<Option<RefSpot>, Fail> {
+    match place {
+        Some((bucket, key)) => Ok(Some(spot_of(bucket, key)?)),
+        None => Ok(None),
+    }
+}
+
 #[test]
 fn a_page_has_the_finalised_references_of_its_namespace(rt: HostRuntime) -> Result<(), Fail> {
     let table = table_of(rt.alloc())?;
     let space = Namespace::parse("ue5")?;
     let rows = [row_of("a", 2)?, row_of("b", 2)?, row_of("b", 3)?];
-    let cases = [
-        (None, 1, 0, 1, Some(rows[0].spot)),
-        (Some(rows[0].spot), 1, 1, 2, Some(rows[1].spot)),
-        (Some(rows[1].spot), 1, 2, 3, None),
-        (Some(rows[2].spot), 1, 3, 3, None),
-        (None, 2, 0, 2, Some(rows[1].spot)),
-        (Some(rows[1].spot), 2, 2, 3, None),
-        (Some(rows[0].spot), 2, 1, 3, None),
-        (None, 3, 0, 3, None),
-        (None, u32::MAX, 0, 3, None),
-        (Some(spot_of("b", 1)?), 3, 1, 3, None),
-        (Some(spot_of("c", 1)?), 3, 3, 3, None),
-    ];
-    for (from, count, first, last, next) in cases {
-        let page = table.page(rt.alloc(), &space, from, count)?;
-        assert!(rt;
-            page.rows.as_slice() == &rows[first..last],
-            "{count} rows from {first}"
-        );
-        assert_eq!(rt; page.next, next, "{count} rows from {first}");
+    let rows = rows.as_slice();
+    for (from, count, wanted, next) in [
+        (None, 1, 0..1, Some(("a", 2))),
+        (Some(("a", 2)), 1, 1..2, Some(("b", 2))),
+        (Some(("b", 2)), 1, 2..3, None),
+        (Some(("b", 3)), 1, 3..3, None),
+        (None, 2, 0..2, Some(("b", 2))),
+        (Some(("b", 2)), 2, 2..3, None),
+        (Some(("a", 2)), 2, 1..3, None),
+        (None, 3, 0..3, None),
+        (None, u32::MAX, 0..3, None),
+        (Some(("b", 1)), 3, 1..3, None),
+        (Some(("c", 1)), 3, 3..3, None),
+    ] {
+        let page = table.page(rt.alloc(), &space, maybe_spot(from)?, count.max(1))?;
+        assert_eq!(rt; Some(page.rows.as_slice()), rows.get(wanted));
+        assert_eq!(rt; page.next, maybe_spot(next)?);
     }
     Ok(())
 }
@@ -129,6 +133,7 @@ fn a_reference_expires_when_its_whole_time_to_live_is_over(rt: HostRuntime) -> R
         spot_of("b", 3)?,
         spot_of("c", 1)?,
     ];
+    let spots = spots.as_slice();
     let at_123 = table.expired(rt.alloc(), &space, 123, 24, 9)?;
     assert!(rt; at_123.as_slice() == &spots[2..3]);
     let at_124 = table.expired(rt.alloc(), &space, 124, 24, 9)?;
@@ -136,7 +141,7 @@ fn a_reference_expires_when_its_whole_time_to_live_is_over(rt: HostRuntime) -> R
     let two = table.expired(rt.alloc(), &space, 124, 24, 2)?;
     assert!(rt; two.as_slice() == &spots[0..2]);
     let all = table.expired(rt.alloc(), &space, 126, 24, 6)?;
-    assert!(rt; all.as_slice() == spots.as_slice());
+    assert!(rt; all.as_slice() == spots);
     let none = table.expired(rt.alloc(), &space, 98, 0, 9)?;
     assert_eq!(rt; none.len(), 0);
     Ok(())
