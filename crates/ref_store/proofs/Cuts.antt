@@ -1,12 +1,11 @@
 -- The rows of a page, cut from one row more than was asked for.
-use Rattle.std.specs.Prelude.{◌≡◌, ℕ, ◌+◌, ◌-◌, ◌≤◌, ◌<◌, cond, nat_lt, List, [], ◌∷◌, ◌++◌, length, take, Option, None, Some, IfNone, refl}
+use Rattle.std.specs.Prelude.{◌≡◌, ℕ, ◌+◌, ◌-◌, ◌≤◌, ◌<◌, cond, nat_lt, List, [], ◌∷◌, ◌++◌, length, take, Option, None, Some, IfNone}
 use Rattle.std.specs.Option.{option_map, option_to_list}
 use Rattle.std.specs.List.{slice_get, slice_index_or}
-use Rattle.std.proofs.Common.{ap, sym, subst, ◌∙◌, arith}
+use Rattle.std.proofs.Common.{ap, sym, ◌∙◌, arith}
 use Rattle.std.proofs.lemmas.List.{length-take, length-append, take-take, take-append-le, take_all, get_or-take}
 use Rattle.std.proofs.lemmas.Option.{slice_get-get_or}
 use Rattle.std.proofs.lemmas.Bool.{lt-ltb}
-use Rattle.ddc_names.specs.declared.reference.RefSpot.{RefSpot}
 use Rattle.ref_store.specs.declared.slot.RefRow.{RefRow}
 use Rattle.ref_store.specs.declared.slot.SlotPage.{SlotPage}
 use Rattle.ref_store.specs.Pages.{cut_page}

@@ -1,6 +1,6 @@
 -- The run of a namespace in the ordered map is its references after a spot, in the order of the finite map.
 use Rattle.std.specs.Prelude.{◌≡◌, ℕ, Bool, true, false, cond, ◌&&◌, List, [], ◌∷◌, Option, None, Some, refl, ◌⊎◌, T}
-use Rattle.std.specs.Cmp.{eq_by_cmp_equiv, IsTotalOrder}
+use Rattle.std.specs.Cmp.{eq_by_cmp_equiv}
 use Rattle.std.specs.Map.{keys_of}
 use Rattle.std.specs.List.Sorted.{IsStrictlySortedBy}
 use Rattle.std.proofs.lemmas.Map.Keys.{sorted_head, sorted_tail}

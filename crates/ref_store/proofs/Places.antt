@@ -13,7 +13,6 @@ use Rattle.ddc_names.specs.declared.reference.RefName.{RefName}
 use Rattle.ddc_names.specs.declared.reference.RefSpot.{RefSpot}
 use Rattle.ref_store.specs.declared.slot.Slot.{Slot}
 use Rattle.ref_store.specs.declared.place.Place.{Place}
-use Rattle.ref_store.specs.Slots.{Slots}
 use Rattle.ref_store.specs.Places.{place_of_name, place_cmp, with_entry, named, slots_of}
 
 never_tied : (o : Ordering) → is_eq (ordering_then o Greater) ≡ false
