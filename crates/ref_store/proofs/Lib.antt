@@ -1,3 +1,4 @@
+pub mod Answered
 pub mod Places
 pub mod Pages
-pub mod Walks
+pub mod Cuts

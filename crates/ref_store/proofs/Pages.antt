@@ -1,6 +1,6 @@
 -- The run of a namespace in the ordered map is its references after a spot, in the order of the finite map.
 use Rattle.std.specs.Prelude.{◌≡◌, ℕ, Bool, true, false, cond, ◌&&◌, List, [], ◌∷◌, Option, None, Some, refl, ◌⊎◌, T}
-use Rattle.std.specs.Cmp.{eq_by_cmp_equiv, IsTotalOrder}
+use Rattle.std.specs.Cmp.{eq_by_cmp_equiv}
 use Rattle.std.specs.Map.{keys_of}
 use Rattle.std.specs.List.Sorted.{IsStrictlySortedBy}
 use Rattle.std.proofs.lemmas.Map.Keys.{sorted_head, sorted_tail}
@@ -73,7 +73,7 @@ same_slots space from [] s = refl
 same_slots space from (e ∷ es) s =
     front space from e.0.space e.0.spot e.1 (named es)
     ∙ one_entry (name_cmp space e.0.space) (option_cmp spot_cmp from e.0.spot) (is_eq (name_cmp e.0.space space)) _ _ (with_entry e.0.space e.0.spot e.1) ((eq_by_cmp_equiv name_total).symm e.0.space space)
-        (same_slots space from es (sorted_tail place_cmp e.0 (keys_of es) s)) (λ l. later_none space from e.0 es l (sorted_head place_cmp e.0 (keys_of es) s))
+    (same_slots space from es (sorted_tail place_cmp e.0 (keys_of es) s)) (λ l. later_none space from e.0 es l (sorted_head place_cmp e.0 (keys_of es) s))
     ∙ sym (run_if _ space e (entries_between place_cmp (Excluded (record { space = space; spot = from })) Unbounded es))
 
 below_step : (name : RefName) (space : List ℕ) (spot : Option RefSpot) (slot : Slot) (es : List (RefName × Slot)) → place_cmp (place_of_name name) (record { space = space; spot = spot }) ≡ Less → below_all ref_name_cmp name es ≡ true → below_all ref_name_cmp name (with_entry space spot slot es) ≡ true

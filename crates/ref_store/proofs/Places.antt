@@ -1,5 +1,5 @@
 -- Looking up, setting and removing at a place do to the finite map what they do at a name.
-use Rattle.std.specs.Prelude.{◌≡◌, ℕ, ◌+◌, ◌-◌, Bool, true, false, cond, if◌then◌else◌, List, [], ◌∷◌, Option, None, Some, is_some, length, refl, Result, Ok, Err, OnErr}
+use Rattle.std.specs.Prelude.{◌≡◌, ℕ, ◌+◌, ◌-◌, Bool, true, false, cond, if◌then◌else◌, List, [], ◌∷◌, Option, None, Some, is_some, length, refl}
 use Rattle.std.proofs.Common.{ap, sym, subst, ◌∙◌, arith}
 use Rattle.std.specs.declared.cmp.Ordering.{Ordering}
 use Rattle.std.specs.declared.cmp.Ordering.TheVariants.{Less, Equal, Greater}
@@ -13,7 +13,6 @@ use Rattle.ddc_names.specs.declared.reference.RefName.{RefName}
 use Rattle.ddc_names.specs.declared.reference.RefSpot.{RefSpot}
 use Rattle.ref_store.specs.declared.slot.Slot.{Slot}
 use Rattle.ref_store.specs.declared.place.Place.{Place}
-use Rattle.ref_store.specs.Slots.{Slots}
 use Rattle.ref_store.specs.Places.{place_of_name, place_cmp, with_entry, named, slots_of}
 
 never_tied : (o : Ordering) → is_eq (ordering_then o Greater) ≡ false
@@ -68,7 +67,3 @@ pub count_removed : (es fs : List (Place × Slot)) (s : RefName) (before : Optio
 count_removed es fs s before removed was less count =
     ap len removed ∙ len-remove ref_name_total (slots_of es) s
     ∙ one_less (is_some (get (slots_of es) s)) (len (slots_of es)) (length es) (length fs) count (ap (λ (o : Option Slot). length fs + (if is_some o then 1 else 0)) (sym was) ∙ less)
-
-pub at_err : {T E : Type 0} {P : Type 0} (r : Result T E) → P → OnErr r P
-at_err (Ok x) p = tt
-at_err (Err e) p = p

@@ -122,8 +122,7 @@ impl RefTable {
         requires { 1 ≤ count }
         ensures { IfOk result (λ spots. spots ≡ take count (expired_of self.now space.now hour ttl)) }
     {
-        let spots = first_expired(alloc, &self.slots, space, hour, ttl, count as usize)?;
-        Ok(spots)
+        first_expired(alloc, &self.slots, space, hour, ttl, count as usize)
     }
 }
 
@@ -136,6 +135,6 @@ fn cut_page(mut rows: Rows<RefRow>, count: usize) -> SlotPage
         return SlotPage { rows, next: None };
     }
     rows.pop();
-    let next = rows.as_slice().last().map(|row| row.spot);
+    let next = Some(rows.as_slice()[count - 1].spot);
     SlotPage { rows, next }
 }

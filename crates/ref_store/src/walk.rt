@@ -27,11 +27,11 @@ pub(crate) fn first_rows(
     ensures ordered { OnOk result (IsStrictlySortedBy place_cmp (keys_of slots.now.entries)) }
 {
     let mut rows = Rows::new(alloc);
-    let start = Place {
+    let before = Place {
         space: *space,
         spot: from,
     };
-    for (place, slot) in slots.range((Bound::Excluded(start), Bound::Unbounded)) {
+    for (place, slot) in slots.range((Bound::Excluded(before), Bound::Unbounded)) {
         if rows.len() >= count {
             return Ok(rows);
         }
