@@ -5,7 +5,7 @@ ghost use Rattle.blake3_hash.specs.Spine.{leaves};
 ghost use Rattle.blake3_lanes.specs.Lanes.{lane};
 
 use crate::kernel::{compress, rows, start_values};
-use crate::vectors::{load, transpose};
+use crate::vectors::{Turns, load, transpose};
 use std::simd::prelude::*;
 
 #[inline(always)]
@@ -94,13 +94,14 @@ fn chunks4(input: &[u8], first: u64) -> [[u32; 8]; 4]
     requires first { first ≤ 2 ^ 54 - 4 }
     ensures { (j : ℕ) → j < 4 → slice_index_or result j [] ≡ chunk_value (take 1024 (drop (1024 * j) input.now)) (first + j) 0 }
 {
+    let turns = Turns::new();
     let low = low_words(first);
     let high = high_words(first);
     let mut h = start_values();
     'each_block: for k in 0..15 {
-        h = compress(&h, &columns(input, 64 * k), low, high, 64, start_flag(k));
+        h = compress(&turns, &h, &columns(input, 64 * k), low, high, 64, start_flag(k));
     }
-    rows(&compress(&h, &columns(input, 960), low, high, 64, 2))
+    rows(&compress(&turns, &h, &columns(input, 960), low, high, 64, 2))
 }
 
 /// The values of the eight chunks of the input, none of which is the root; `first` is the number of the first one.
