@@ -12,3 +12,7 @@ one_byte = 1 ∷ 2 ∷ 3 ∷ 0 ∷ 5 ∷ 6 ∷ 7 ∷ 4 ∷ 9 ∷ 10 ∷ 11 ∷ 8
 -- and by two
 abbrev pub two_bytes : List ℕ
 two_bytes = 2 ∷ 3 ∷ 0 ∷ 1 ∷ 6 ∷ 7 ∷ 4 ∷ 5 ∷ 10 ∷ 11 ∷ 8 ∷ 9 ∷ 14 ∷ 15 ∷ 12 ∷ 13 ∷ []
+
+-- four zeros
+abbrev pub no_words : List ℕ
+no_words = 0 ∷ 0 ∷ 0 ∷ 0 ∷ []
