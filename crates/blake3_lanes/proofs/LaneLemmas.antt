@@ -1,11 +1,12 @@
 -- What holds of a lane.
-use Rattle.std.proofs.Common.{add-one, ◌≡◌, ℕ, zero, suc, ◌<◌, ◌≤◌, ◌+◌, ◌-◌, ◌*◌, ◌/◌, ◌%◌, ◌^◌, List, [], ◌∷◌, length, ◌++◌, slice_index, slice_index_or, slice_set, take, drop, bit_or, bit_xor, w32, arith, refl, ap, ◌∙◌, sym}
+use Rattle.std.proofs.Common.{add-one, ◌≡◌, ℕ, zero, suc, ◌<◌, ◌≤◌, ◌+◌, ◌-◌, ◌*◌, ◌/◌, ◌%◌, ◌^◌, List, [], ◌∷◌, length, ◌++◌, slice_index, slice_index_or, slice_set, take, drop, bit_and, bit_or, bit_xor, w32, arith, refl, ap, ◌∙◌, subst, sym}
 use Rattle.std.specs.Int.{rotate_right}
+use Rattle.std.specs.Int.Bits.{and_zero_r, xor_zero_r}
 use Rattle.std.specs.Simd.Lanes.{zip2}
 use Rattle.std.proofs.lemmas.Simd.{get_or-chunk}
 use Rattle.std.proofs.lemmas.List.{append-nil, drop-drop, drop-take, length-drop, length-take-le, take-take, take_all}
 use Rattle.tree_hash.specs.TreeHash.{block_words, chunk_after, chunk_value, compress_words, start_flag, word_at}
-use Rattle.blake3_lanes.specs.Lanes.{lane}
+use Rattle.blake3_lanes.specs.Lanes.{lane, no_words}
 
 pub lane_set : (j : ℕ) (v : List (List ℕ)) (i : ℕ) (x : List ℕ) (y : ℕ) → slice_index x j ≡ y → lane j (slice_set v i x) ≡ slice_set (lane j v) i y
 lane_set j [] i x y e = refl
@@ -48,6 +49,17 @@ shifts_rotate k low high =
     four_lanes (λ a. (b : List ℕ) → length b ≡ 4 → Rotates k a b) (λ a0 a1 a2 a3.
     four_lanes (Rotates k (a0 ∷ a1 ∷ a2 ∷ a3 ∷ [])) (λ b0 b1 b2 b3.
     below_four _ (rw (right, left) refl) (rw (right, left) refl) (rw (right, left) refl) (rw (right, left) refl)))
+
+-- words xor words that met zeros are the words
+abbrev Unmoved : List ℕ → List ℕ → List ℕ → Type 0
+Unmoved x read none = zip2 bit_xor x (zip2 bit_and read none) ≡ x
+
+pub unmoved : (none : List ℕ) → none ≡ no_words → (x : List ℕ) → length x ≡ 4 → (read : List ℕ) → length read ≡ 4 → Unmoved x read none
+unmoved none e =
+    four_lanes (λ x. (read : List ℕ) → length read ≡ 4 → Unmoved x read none) (λ x0 x1 x2 x3.
+    four_lanes (λ read. Unmoved (x0 ∷ x1 ∷ x2 ∷ x3 ∷ []) read none) (λ r0 r1 r2 r3.
+    subst (Unmoved (x0 ∷ x1 ∷ x2 ∷ x3 ∷ []) (r0 ∷ r1 ∷ r2 ∷ r3 ∷ [])) (sym e)
+    (rw (and_zero_r r0, and_zero_r r1, and_zero_r r2, and_zero_r r3, xor_zero_r x0, xor_zero_r x1, xor_zero_r x2, xor_zero_r x3) refl)))
 
 pub word_moved : (b : List ℕ) (i k x : ℕ) → x ≡ word_at b i → i ≡ k → x ≡ word_at b k
 word_moved b i k x e same = e ∙ ap (λ (n : ℕ). word_at b n) same

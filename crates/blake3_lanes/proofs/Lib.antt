@@ -1,4 +1,5 @@
-pub mod LaneLemmas
+pub mod Halves
+mod LaneLemmas
 pub mod Groups
 pub mod Subtrees
 pub mod Buffered

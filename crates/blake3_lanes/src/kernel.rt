@@ -1,13 +1,23 @@
 // The compression of four blocks side by side (BLAKE3 specification, section 2.2).
 ghost use Rattle.std.specs.Prelude.{◌≡◌, ℕ, ◌+◌, ◌*◌, ◌/◌, ◌%◌, ◌^◌, ◌<◌, List, [], slice_index, slice_index_or};
-ghost use Rattle.tree_hash.specs.TreeHash.{compress_words, folded, half_mix, iv, mix, permute, round, start_state};
-ghost use Rattle.blake3_lanes.specs.Lanes.{lane};
+ghost use Rattle.tree_hash.specs.TreeHash.{compress_words, folded, half_mix, iv, permute, round, start_state};
+ghost use Rattle.blake3_lanes.specs.Lanes.{lane, mix_columns, mix_diagonals};
 
-use crate::vectors::{add, splat, xor, xor_rotate};
+use crate::vectors::{Hidden, add, splat, xor, xor_rotate};
 use std::simd::prelude::*;
 
 #[inline(always)]
-fn half_mix(v: &mut [u32x4; 16], a: usize, b: usize, c: usize, d: usize, x: u32x4, r: u32, s: u32)
+fn half_mix(
+    hidden: &Hidden,
+    v: &mut [u32x4; 16],
+    a: usize,
+    b: usize,
+    c: usize,
+    d: usize,
+    x: u32x4,
+    r: u32,
+    s: u32,
+)
     requires a_in { a < 16 }
     requires b_in { b < 16 }
     requires c_in { c < 16 }
@@ -19,35 +29,48 @@ fn half_mix(v: &mut [u32x4; 16], a: usize, b: usize, c: usize, d: usize, x: u32x
     ensures { (j : ℕ) → j < 4 → lane j v.new ≡ half_mix (lane j v.old) a b c d (slice_index x j) r s }
 {
     v[a] = add(add(v[a], v[b]), x);
-    v[d] = xor_rotate(v[d], v[a], r);
+    v[d] = xor_rotate(hidden, v[d], v[a], r);
     v[c] = add(v[c], v[d]);
-    v[b] = xor_rotate(v[b], v[c], s);
+    v[b] = xor_rotate(hidden, v[b], v[c], s);
 }
 
+// The function G on each column of the state: a half of it on all four before the other half, so that none waits for
+// another.
 #[inline(always)]
-fn mix(v: &mut [u32x4; 16], a: usize, b: usize, c: usize, d: usize, x: u32x4, y: u32x4)
-    requires a_in { a < 16 }
-    requires b_in { b < 16 }
-    requires c_in { c < 16 }
-    requires d_in { d < 16 }
-    ensures { (j : ℕ) → j < 4 → lane j v.new ≡ mix (lane j v.old) a b c d (slice_index x j) (slice_index y j) }
+fn mix_columns(hidden: &Hidden, v: &mut [u32x4; 16], m: &[u32x4; 16])
+    ensures { (j : ℕ) → j < 4 → lane j v.new ≡ mix_columns (lane j v.old) (lane j m.now) }
 {
-    half_mix(v, a, b, c, d, x, 16, 12);
-    half_mix(v, a, b, c, d, y, 8, 7);
+    half_mix(hidden, v, 0, 4, 8, 12, m[0], 16, 12);
+    half_mix(hidden, v, 1, 5, 9, 13, m[2], 16, 12);
+    half_mix(hidden, v, 2, 6, 10, 14, m[4], 16, 12);
+    half_mix(hidden, v, 3, 7, 11, 15, m[6], 16, 12);
+    half_mix(hidden, v, 0, 4, 8, 12, m[1], 8, 7);
+    half_mix(hidden, v, 1, 5, 9, 13, m[3], 8, 7);
+    half_mix(hidden, v, 2, 6, 10, 14, m[5], 8, 7);
+    half_mix(hidden, v, 3, 7, 11, 15, m[7], 8, 7);
+}
+
+// The function G on each diagonal of the state, in the same way.
+#[inline(always)]
+fn mix_diagonals(hidden: &Hidden, v: &mut [u32x4; 16], m: &[u32x4; 16])
+    ensures { (j : ℕ) → j < 4 → lane j v.new ≡ mix_diagonals (lane j v.old) (lane j m.now) }
+{
+    half_mix(hidden, v, 0, 5, 10, 15, m[8], 16, 12);
+    half_mix(hidden, v, 1, 6, 11, 12, m[10], 16, 12);
+    half_mix(hidden, v, 2, 7, 8, 13, m[12], 16, 12);
+    half_mix(hidden, v, 3, 4, 9, 14, m[14], 16, 12);
+    half_mix(hidden, v, 0, 5, 10, 15, m[9], 8, 7);
+    half_mix(hidden, v, 1, 6, 11, 12, m[11], 8, 7);
+    half_mix(hidden, v, 2, 7, 8, 13, m[13], 8, 7);
+    half_mix(hidden, v, 3, 4, 9, 14, m[15], 8, 7);
 }
 
 #[inline(always)]
-fn round(v: &mut [u32x4; 16], m: &[u32x4; 16])
+fn round(hidden: &Hidden, v: &mut [u32x4; 16], m: &[u32x4; 16])
     ensures { (j : ℕ) → j < 4 → lane j v.new ≡ round (lane j v.old) (lane j m.now) }
 {
-    mix(v, 0, 4, 8, 12, m[0], m[1]);
-    mix(v, 1, 5, 9, 13, m[2], m[3]);
-    mix(v, 2, 6, 10, 14, m[4], m[5]);
-    mix(v, 3, 7, 11, 15, m[6], m[7]);
-    mix(v, 0, 5, 10, 15, m[8], m[9]);
-    mix(v, 1, 6, 11, 12, m[10], m[11]);
-    mix(v, 2, 7, 8, 13, m[12], m[13]);
-    mix(v, 3, 4, 9, 14, m[14], m[15]);
+    mix_columns(hidden, v, m);
+    mix_diagonals(hidden, v, m);
 }
 
 #[inline(always)]
@@ -104,6 +127,7 @@ fn folded(v: &[u32x4; 16]) -> [u32x4; 8]
 // its high word.
 #[inline(always)]
 pub(crate) fn compress(
+    hidden: &Hidden,
     h: &[u32x4; 8],
     m: &[u32x4; 16],
     low: u32x4,
@@ -115,19 +139,19 @@ pub(crate) fn compress(
         → lane j result ≡ compress_words (lane j h.now) (lane j m.now) n len flags }
 {
     let mut v = start_state(h, low, high, len, flags);
-    round(&mut v, m);
+    round(hidden, &mut v, m);
     let m = permute(m);
-    round(&mut v, &m);
+    round(hidden, &mut v, &m);
     let m = permute(&m);
-    round(&mut v, &m);
+    round(hidden, &mut v, &m);
     let m = permute(&m);
-    round(&mut v, &m);
+    round(hidden, &mut v, &m);
     let m = permute(&m);
-    round(&mut v, &m);
+    round(hidden, &mut v, &m);
     let m = permute(&m);
-    round(&mut v, &m);
+    round(hidden, &mut v, &m);
     let m = permute(&m);
-    round(&mut v, &m);
+    round(hidden, &mut v, &m);
     folded(&v)
 }
 

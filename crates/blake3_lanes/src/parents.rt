@@ -5,7 +5,7 @@ ghost use Rattle.blake3_hash.specs.Spine.{joined};
 ghost use Rattle.blake3_lanes.specs.Lanes.{lane};
 
 use crate::kernel::{compress, rows, start_values};
-use crate::vectors::splat;
+use crate::vectors::{Hidden, splat};
 use blake3_hash::parent_value;
 use std::simd::prelude::*;
 
@@ -47,6 +47,7 @@ fn parents4(left: &[[u32; 8]; 4], right: &[[u32; 8]; 4]) -> [[u32; 8]; 4]
     ensures { (j : ℕ) → j < 4 → slice_index_or result j [] ≡ parent_value (slice_index_or left.now j []) (slice_index_or right.now j []) 0 }
 {
     rows(&compress(
+        &Hidden::new(),
         &start_values(),
         &messages(left, right),
         splat(0),

@@ -5,7 +5,7 @@ ghost use Rattle.blake3_hash.specs.Spine.{IsPushed, leaves};
 ghost use Rattle.blake3_hash.specs.Fed.{IsHeld};
 ghost use Rattle.blake3_lanes.specs.WideFed.{IsWideFed, wide_length};
 
-use crate::chunks::chunks8;
+use crate::chunks::{chunks8, chunks8_before};
 use crate::parents::subtree8;
 use blake3_hash::{Spine, chunk_value};
 use std::marker::Model;
@@ -134,6 +134,19 @@ fn push_front(spine: &mut Spine, values: &[[u32; 8]; 8], whole: usize)
     }
 }
 
+// Four chunks from byte `at` on, and the first four where there are fewer.
+fn four_chunks(bytes: &[u8], at: usize) -> &[u8]
+    requires at { at ≤ length bytes.now }
+    requires len { 4096 ≤ length bytes.now }
+    ensures { length result.now ≡ 4096 }
+{
+    if bytes.len() - at >= 4096 {
+        &bytes[at..at + 4096]
+    } else {
+        &bytes[..4096]
+    }
+}
+
 // Takes in bytes behind `number` whole chunks: all but the last 1 to 8,192 go on the spine, and these go to the front
 // of the buffer. Gives their number.
 fn absorb(spine: &mut Spine, buffer: &mut [u8; 8192], number: u64, bytes: &[u8]) -> usize
@@ -148,7 +161,9 @@ fn absorb(spine: &mut Spine, buffer: &mut [u8; 8192], number: u64, bytes: &[u8])
 {
     let groups = (bytes.len() - 1) / 8192;
     'groups: for k in 0..groups {
-        let values = chunks8(&bytes[8192 * k..8192 * k + 8192], number + 8 * k as u64);
+        let group = &bytes[8192 * k..8192 * k + 8192];
+        let next = four_chunks(bytes, 8192 * k + 8192);
+        let values = chunks8_before(group, number + 8 * k as u64, next);
         push_values(spine, &values);
     }
     let tail = &bytes[8192 * groups..];

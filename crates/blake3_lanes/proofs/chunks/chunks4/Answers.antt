@@ -15,5 +15,5 @@ each_block-preserved c j h =
 pub returns : goal.returns
 returns c j h =
     let done : c.each_block.k ≡ 15 = omega arith in
-    rw (c.rows.ensures j h, c.compress.ensures j (c.args.first + j) h (c.low_words-low.ensures j h) (c.high_words-high.ensures j h), c.columns-2.ensures j h, c.each_block.invariant j h, done)
+    rw (c.rows.ensures j h, c.compress.ensures j (c.args.first + j) h (rw c.kept-low.ensures (c.low_words-low.ensures j h)) (c.high_words-high.ensures j h), c.columns-2.ensures j h, c.each_block.invariant j h, done)
     (chunk_last c.args.input.now (1024 * j) (c.args.first + j) (omega arith))

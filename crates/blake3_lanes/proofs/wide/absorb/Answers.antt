@@ -22,9 +22,9 @@ groups-preserved c = record {
       let n : ℕ = c.args.spine.now.count in
       let b : List ℕ = c.args.bytes.now in
       let width : 8192 * k + 8192 - 8192 * k ≡ 8192 = omega arith in
-      let rows : c.chunks8-values.result ≡ leaves 8 (take 8192 (drop (8192 * k) b)) (n + 8 * k) =
-      rw (c.chunks8-values.ensures, width, c.requires.number) refl in
-      rw (group_behind n k m b c.chunks8-values.result len rows)
+      let rows : c.chunks8_before-values.result ≡ leaves 8 (take 8192 (drop (8192 * k) b)) (n + 8 * k) =
+      rw (c.chunks8_before-values.ensures, width, c.requires.number) refl in
+      rw (group_behind n k m b c.chunks8_before-values.result len rows)
       (c.push_values.ensures.pushed (leaves (n + 8 * k) (m ++ b) 0) (c.groups.invariant.pushed m len h));
 }
 

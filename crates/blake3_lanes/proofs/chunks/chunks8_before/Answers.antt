@@ -2,7 +2,7 @@ use Rattle.std.proofs.Common.{arith, ◌∙◌}
 use Rattle.std.proofs.lemmas.List.{length-take-le, take_rest}
 use Rattle.blake3_lanes.proofs.LaneLemmas.{rows_beside}
 use Rattle.blake3_lanes.proofs.Groups.{eight_leaves}
-use Rattle.blake3_lanes.proofs.chunks.chunks8.Goals as goal
+use Rattle.blake3_lanes.proofs.chunks.chunks8_before.Goals as goal
 
 pub slice_bounds-chunks4-end : goal.slice_bounds-chunks4-end
 slice_bounds-chunks4-end c = omega (arith, length-take-le 4096 c.args.input.now (omega arith))
