@@ -1,0 +1,223 @@
+//! The index.
+
+ghost use Rattle.std.specs.Prelude.{◌≡◌, ◌+◌, ◌-◌, ◌^◌, ◌≤◌, true, min, [], OnOk, OnErr, option_copied, option_map};
+ghost use Rattle.std.specs.Option.{unwrap_or};
+ghost use Rattle.std.specs.FinMap as map;
+ghost use Rattle.ddc_model.specs.State.{blob_at, empty_state};
+ghost use Rattle.ddc_model.specs.Entries.{after, legal};
+ghost use Rattle.ddc_model.specs.Closure.{links_in};
+ghost use Rattle.ddc_model.specs.Counts.{link_count};
+
+mod changes;
+mod legal;
+
+use crate::blobs::BlobTable;
+use crate::spaces::SpaceTable;
+use cb_fields::Link;
+use ddc_model::{Blob, BlobName, BlobRow, Entry, Limits, SpaceRow};
+use ddc_names::{IoHash, Namespace, NoMemory};
+use legal::is_time_of;
+use ref_store::RefTable;
+use std::alloc::Global;
+use std::marker::Model;
+
+/// The namespaces, blobs and references of a store, within its limits, and the greatest hour of a change. Contracts
+/// see the state, and the number of times that links were given out.
+#[derive(Drop)]
+pub struct Index {
+    limits: Limits,
+    hour: u32,
+    spaces: SpaceTable,
+    blobs: BlobTable,
+    refs: RefTable,
+    reads: u64,
+}
+
+impl Model for Index {
+    ghost use Rattle.ddc_state.specs.Views.{IndexView, coded_index};
+
+    ghost Value = { IndexView };
+
+    ghost coded = { coded_index };
+
+    ghost view = { λ index. record { state = record { limits = index.limits; hour = index.hour; spaces = index.spaces; blobs = index.blobs; slots = index.refs }; reads = index.reads } };
+}
+
+/// One read of links that was counted. It can't be made twice or thrown away, so that no links are given out uncounted.
+pub struct Read {
+    counted: (),
+}
+
+impl Index {
+    /// An index of nothing, at the hour 0, which holds no memory yet.
+    pub fn new(alloc: Global, limits: Limits) -> Index
+        requires kept { 1 ≤ limits.kept }
+        requires units { limits.units ≤ 2 ^ 51 }
+        ensures state { result.state ≡ empty_state limits }
+        ensures reads { result.reads ≡ 0 }
+    {
+        Index {
+            limits,
+            hour: 0,
+            spaces: SpaceTable::new(alloc),
+            blobs: BlobTable::new(alloc),
+            refs: RefTable::new(alloc),
+            reads: 0,
+        }
+    }
+
+    /// Whether an entry is legal.
+    pub fn fits(&self, entry: &Entry) -> bool
+        ensures { result ≡ legal self.now.state entry.now }
+    {
+        match entry {
+            Entry::Space { ttl, pin, .. } => is_time_of(*ttl) && is_time_of(*pin),
+            Entry::Upload { space, blob, .. } => self.spaces.has(space) && self.takes(space, blob),
+            Entry::Repin { space, hash, .. } => self.spaces.has(space) && self.has(space, hash),
+            Entry::Put {
+                name,
+                root,
+                fresh,
+                ..
+            } => self.spaces.has(&name.space) && self.takes_root(&name.space, root, fresh),
+            Entry::Finalise { name, hash, .. } => {
+                self.spaces.has(&name.space) && self.waits_for(name, hash)
+            }
+            Entry::Delete { name, .. } => {
+                self.spaces.has(&name.space) && self.refs.get(name).is_some()
+            }
+            Entry::Touch { name, .. } => self.spaces.has(&name.space) && self.serves(name),
+        }
+    }
+
+    /// Makes the change of a legal entry.
+    ///
+    /// # Errors
+    ///
+    /// `NoMemory` where there is none for a row that isn't there yet, or where the links of all blobs would be more
+    /// than a `u64` counts. The index is then as before.
+    pub fn apply(&mut self, alloc: Global, entry: &Entry) -> Result<(), NoMemory>
+        requires { legal self.old.state entry.now ≡ true }
+        ensures ok { OnOk result (self.new.state ≡ after self.old.state entry.now) }
+        ensures err { OnErr result (self.new ≡ self.old) }
+        ensures reads { self.new.reads ≡ self.old.reads }
+    {
+        match entry {
+            Entry::Space { space, ttl, pin } => self.apply_space(space, *ttl, *pin),
+            Entry::Upload { space, blob, hour } => self.apply_upload(alloc, space, blob, *hour),
+            Entry::Repin { space, hash, hour } => {
+                self.apply_repin(space, hash, *hour);
+                Ok(())
+            }
+            Entry::Put {
+                name,
+                root,
+                fresh,
+                whole,
+                hour,
+            } => self.apply_put(alloc, name, root, fresh, *whole, *hour),
+            Entry::Finalise { name, hash, hour } => self.apply_finalise(name, hash, *hour),
+            Entry::Delete { name, hour } => {
+                self.apply_delete(name, *hour);
+                Ok(())
+            }
+            Entry::Touch { name, hour } => self.apply_touch(name, *hour),
+        }
+    }
+
+    /// Counts a read of links, up to 2^64 - 1.
+    pub fn count_read(&mut self) -> Read
+        ensures state { self.new.state ≡ self.old.state }
+        ensures reads { self.new.reads ≡ min (self.old.reads + 1) (2 ^ 64 - 1) }
+    {
+        self.reads = self.reads.saturating_add(1);
+        Read { counted: () }
+    }
+
+    /// The links of a blob, in order of occurrence, and none where the blob isn't there. A read that was counted is
+    /// used up.
+    pub fn links(&self, space: &Namespace, hash: &IoHash, read: Read) -> &[Link]
+        ensures { result.now ≡ unwrap_or (links_in self.now.state space.now hash.now) [] }
+    {
+        let Read { counted: () } = read;
+        match self.found(space, hash) {
+            Some(blob) => blob.links.as_slice(),
+            None => &[],
+        }
+    }
+
+    /// What is kept of a blob beside its links.
+    pub fn blob(&self, space: &Namespace, hash: &IoHash) -> Option<BlobRow>
+        ensures { result ≡ option_map (λ blob. blob.row) (blob_at self.now.state space.now hash.now) }
+    {
+        match self.found(space, hash) {
+            Some(blob) => Some(blob.row),
+            None => None,
+        }
+    }
+
+    /// The times of a namespace.
+    pub fn space(&self, space: &Namespace) -> Option<SpaceRow>
+        ensures { result ≡ map.get self.now.state.spaces space.now }
+    {
+        self.spaces.get(space)
+    }
+
+    /// The references.
+    pub fn refs(&self) -> &RefTable
+        ensures { result.now ≡ self.now.state.slots }
+    {
+        &self.refs
+    }
+
+    /// The greatest hour of a change, in whole hours since 1970.
+    pub fn hour(&self) -> u32
+        ensures { result ≡ self.now.state.hour }
+    {
+        self.hour
+    }
+
+    /// The limits of the store.
+    pub fn limits(&self) -> Limits
+        ensures { result ≡ self.now.state.limits }
+    {
+        self.limits
+    }
+
+    /// How many blobs all namespaces have.
+    pub fn blob_count(&self) -> u64
+        ensures { result ≡ map.len self.now.state.blobs }
+    {
+        self.blobs.len()
+    }
+
+    /// How many namespaces there are.
+    pub fn space_count(&self) -> u64
+        ensures { result ≡ map.len self.now.state.spaces }
+    {
+        self.spaces.len()
+    }
+
+    /// How many links all blobs have.
+    pub fn link_count(&self) -> u64
+        ensures { result ≡ link_count self.now.state }
+    {
+        self.blobs.link_count()
+    }
+
+    /// How many reads of links were counted. The count stands still at 2^64 - 1.
+    pub fn reads(&self) -> u64
+        ensures { result ≡ self.now.reads }
+    {
+        self.reads
+    }
+
+    fn found(&self, space: &Namespace, hash: &IoHash) -> Option<&Blob>
+        ensures { option_copied result ≡ blob_at self.now.state space.now hash.now }
+    {
+        self.blobs.get(&BlobName {
+            space: *space,
+            hash: *hash,
+        })
+    }
+}

@@ -1,0 +1,15 @@
+//! The index of a store: its namespaces, its blobs with their links, and its references, as entries of its history
+//! change them. `ddc_model` defines the state, and what each entry leaves.
+#![tactic(auto)]
+
+mod blobs;
+mod checked;
+mod index;
+#[cfg(test)]
+mod plain;
+mod spaces;
+#[cfg(test)]
+mod tests;
+
+pub use checked::Checked;
+pub use index::{Index, Read};

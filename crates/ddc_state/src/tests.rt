@@ -1,0 +1,440 @@
+//! Entries whose effect a reader can work out by eye, and the plain program beside the index.
+
+use crate::plain::Plain;
+use crate::{Checked, Index};
+use cb_fields::{Link, LinkKind};
+use ddc_model::{BlobRow, Entry, Extent, Limits, SpaceRow, Stored};
+use ddc_names::{Bucket, IoHash, Namespace, NoMemory, RefKey, RefName, RefSpot, Rows};
+use io_hash::{Intake, Whole};
+use ref_store::Slot;
+use std::alloc::Global;
+use std::test::Fail;
+
+fn hash_of(number: u8) -> IoHash {
+    IoHash([number; 20])
+}
+
+fn link_to(kind: LinkKind, number: u8) -> Link {
+    Link {
+        kind,
+        hash: hash_of(number),
+    }
+}
+
+fn space_of(text: &str) -> Result<Namespace, Fail> {
+    Ok(Namespace::parse(text)?)
+}
+
+fn name_of(space: &str, key: u8) -> Result<RefName, Fail> {
+    Ok(RefName {
+        space: Namespace::parse(space)?,
+        spot: RefSpot {
+            bucket: Bucket::parse("maps")?,
+            key: RefKey([key; 20]),
+        },
+    })
+}
+
+fn stored_of(alloc: Global, number: u8, len: u64, links: &[Link]) -> Result<Stored, NoMemory> {
+    Ok(Stored {
+        hash: hash_of(number),
+        len,
+        start: 10,
+        links: Rows::of_vec(Vec::from_slice(alloc, links)?),
+    })
+}
+
+fn whole_of(alloc: Global, bytes: &[u8]) -> Result<Whole, Fail> {
+    let mut intake = Intake::new(alloc, bytes.len() as u64);
+    intake.take(bytes)?;
+    Ok(intake.finish())
+}
+
+// Whether the entry fits; then its change is made.
+fn apply(alloc: Global, index: &mut Index, entry: &Entry) -> Result<bool, NoMemory> {
+    if !index.fits(entry) {
+        return Ok(false);
+    }
+    index.apply(alloc, entry)?;
+    Ok(true)
+}
+
+#[test]
+fn a_check_tells_an_object_and_its_links(rt: HostRuntime) -> Result<(), Fail> {
+    let object = Checked::new(
+        rt.alloc(),
+        whole_of(rt.alloc(), b"\x02\x17\x8f\x01aabcdefghijklmnopqrst")?,
+    )?;
+    assert!(rt; object.is_object());
+    assert_eq!(rt; object.links().len(), 1);
+    assert!(rt; object.links()[0].kind == LinkKind::Binary);
+    assert_eq!(rt; object.links()[0].hash, IoHash(*b"abcdefghijklmnopqrst"));
+    let letter = Checked::new(rt.alloc(), whole_of(rt.alloc(), b"a")?)?;
+    assert!(rt; !letter.is_object());
+    assert_eq!(rt; letter.links().len(), 0);
+    assert_eq!(rt; letter.whole().bytes(), b"a".as_slice());
+    assert!(rt; letter.whole().hash().text() == *b"17762fddd969a453925d65717ac3eea21320b66b");
+    Ok(())
+}
+
+#[test]
+fn an_index_is_empty_at_first(rt: HostRuntime) -> Result<(), Fail> {
+    let index = Index::new(rt.alloc(), Limits::standard());
+    assert_eq!(rt; index.limits().blobs, 2_097_152);
+    assert_eq!(rt; index.hour(), 0);
+    assert_eq!(rt; index.space_count(), 0);
+    assert_eq!(rt; index.blob_count(), 0);
+    assert_eq!(rt; index.refs().len(), 0);
+    assert_eq!(rt; index.link_count(), 0);
+    assert_eq!(rt; index.reads(), 0);
+    assert_eq!(rt; index.space(&space_of("game")?), None);
+    assert_eq!(rt; index.blob(&space_of("game")?, &hash_of(1)), None);
+    Ok(())
+}
+
+// The namespace `game`, and in it a blob of two links, at the hour 100.
+fn index_with_blob(alloc: Global) -> Result<Index, Fail> {
+    let mut index = Index::new(alloc, Limits::standard());
+    let space = space_of("game")?;
+    let entry = Entry::Space {
+        space,
+        ttl: 24,
+        pin: 4,
+    };
+    apply(alloc, &mut index, &entry)?;
+    let links = [link_to(LinkKind::Object, 2), link_to(LinkKind::Binary, 2)];
+    let entry = Entry::Upload {
+        space,
+        blob: stored_of(alloc, 1, 4097, &links)?,
+        hour: 100,
+    };
+    apply(alloc, &mut index, &entry)?;
+    Ok(index)
+}
+
+#[test]
+fn a_blob_has_its_row_and_its_links(rt: HostRuntime) -> Result<(), Fail> {
+    let mut index = index_with_blob(rt.alloc())?;
+    let space = space_of("game")?;
+    let row = BlobRow {
+        len: 4097,
+        at: 100,
+        extent: Extent {
+            start: 10,
+            units: 2,
+        },
+    };
+    assert_eq!(rt; index.space(&space), Some(SpaceRow { ttl: 24, pin: 4 }));
+    assert_eq!(rt; index.blob(&space, &hash_of(1)), Some(row));
+    assert_eq!(rt; index.hour(), 100);
+    assert_eq!(rt; index.space_count(), 1);
+    assert_eq!(rt; index.blob_count(), 1);
+    assert_eq!(rt; index.link_count(), 2);
+    let read = index.count_read();
+    let links = index.links(&space, &hash_of(1), read);
+    assert_eq!(rt; links.len(), 2);
+    assert!(rt; links[0] == link_to(LinkKind::Object, 2));
+    assert!(rt; links[1] == link_to(LinkKind::Binary, 2));
+    let other = space_of("other")?;
+    let read = index.count_read();
+    assert_eq!(rt; index.links(&other, &hash_of(1), read).len(), 0);
+    assert_eq!(rt; index.reads(), 2);
+    Ok(())
+}
+
+#[test]
+fn a_put_leaves_what_is_finalised_until_its_object_is(rt: HostRuntime) -> Result<(), Fail> {
+    let mut index = index_with_blob(rt.alloc())?;
+    let space = space_of("game")?;
+    let name = name_of("game", 7)?;
+    let put = |root: u8, fresh: Option<Stored>, whole: bool, hour: u32| Entry::Put {
+        name,
+        root: hash_of(root),
+        fresh,
+        whole,
+        hour,
+    };
+    let fresh = stored_of(rt.alloc(), 3, 8192, &[link_to(LinkKind::Binary, 9)])?;
+    let hash = hash_of(3);
+    // each entry, the hour of the index behind it, and the reference
+    let steps = [
+        (put(3, Some(fresh), false, 90), 100, None, Some(3), 90),
+        (put(1, None, true, 101), 101, Some(1), None, 101),
+        (put(3, None, false, 95), 101, Some(1), Some(3), 95),
+        (
+            Entry::Finalise {
+                name,
+                hash,
+                hour: 102,
+            },
+            102,
+            Some(3),
+            None,
+            102,
+        ),
+        (Entry::Touch { name, hour: 99 }, 102, Some(3), None, 99),
+    ];
+    for (entry, hour, done, pending, seen) in &steps {
+        let slot = Slot {
+            done: done.map(|number| hash_of(number)),
+            pending: pending.map(|number| hash_of(number)),
+            seen: *seen,
+        };
+        assert!(rt; apply(rt.alloc(), &mut index, entry)?);
+        assert_eq!(rt; index.hour(), *hour);
+        assert_eq!(rt; index.refs().get(&name), Some(slot), "seen {seen}");
+    }
+    assert_eq!(rt; index.link_count(), 3);
+    assert_eq!(rt; index.blob(&space, &hash).map(|row| row.at), Some(95));
+    assert_eq!(rt;
+        index.blob(&space, &hash_of(1)).map(|row| row.at),
+        Some(101)
+    );
+    assert!(rt; apply(rt.alloc(), &mut index, &Entry::Delete { name, hour: 103 })?);
+    assert_eq!(rt; index.refs().get(&name), None);
+    assert_eq!(rt; index.hour(), 103);
+    Ok(())
+}
+
+#[test]
+fn an_entry_that_breaks_a_rule_does_not_fit(rt: HostRuntime) -> Result<(), Fail> {
+    let mut index = index_with_blob(rt.alloc())?;
+    let space = space_of("game")?;
+    let other = space_of("other")?;
+    let name = name_of("game", 7)?;
+    let times = |ttl: u32, pin: u32| Entry::Space {
+        space: other,
+        ttl,
+        pin,
+    };
+    let upload = |space: Namespace, blob: Stored| Entry::Upload {
+        space,
+        blob,
+        hour: 0,
+    };
+    let put = |root: u8, fresh: Option<Stored>| Entry::Put {
+        name,
+        root: hash_of(root),
+        fresh,
+        whole: false,
+        hour: 0,
+    };
+    let entries = [
+        (times(1, 1_000_000), true),
+        (times(1_000_000, 1), true),
+        (times(0, 1), false),
+        (times(1, 0), false),
+        (times(1_000_001, 1), false),
+        (times(1, 1_000_001), false),
+        (
+            upload(space, stored_of(rt.alloc(), 2, 67_108_864, &[])?),
+            true,
+        ),
+        (
+            upload(space, stored_of(rt.alloc(), 2, 67_108_865, &[])?),
+            false,
+        ),
+        (upload(space, stored_of(rt.alloc(), 1, 1, &[])?), false),
+        (upload(other, stored_of(rt.alloc(), 2, 1, &[])?), false),
+        (put(1, None), true),
+        (put(2, None), false),
+        (put(2, Some(stored_of(rt.alloc(), 2, 1, &[])?)), true),
+        (put(2, Some(stored_of(rt.alloc(), 3, 1, &[])?)), false),
+        (put(1, Some(stored_of(rt.alloc(), 1, 1, &[])?)), false),
+        (
+            Entry::Repin {
+                space,
+                hash: hash_of(1),
+                hour: 0,
+            },
+            true,
+        ),
+        (
+            Entry::Repin {
+                space,
+                hash: hash_of(2),
+                hour: 0,
+            },
+            false,
+        ),
+        (
+            Entry::Finalise {
+                name,
+                hash: hash_of(1),
+                hour: 0,
+            },
+            false,
+        ),
+        (Entry::Delete { name, hour: 0 }, false),
+        (Entry::Touch { name, hour: 0 }, false),
+    ];
+    for (entry, fits) in &entries {
+        assert_eq!(rt; index.fits(entry), *fits, "of {entry:?}");
+    }
+    // a reference whose object is pending can be finalised and taken away, and isn't served
+    assert!(rt; apply(rt.alloc(), &mut index, &put(1, None))?);
+    let entries = [
+        (
+            Entry::Finalise {
+                name,
+                hash: hash_of(1),
+                hour: 0,
+            },
+            true,
+        ),
+        (
+            Entry::Finalise {
+                name,
+                hash: hash_of(2),
+                hour: 0,
+            },
+            false,
+        ),
+        (Entry::Delete { name, hour: 0 }, true),
+        (Entry::Touch { name, hour: 0 }, false),
+    ];
+    for (entry, fits) in &entries {
+        assert_eq!(rt; index.fits(entry), *fits, "of {entry:?}");
+    }
+    Ok(())
+}
+
+// Whether the index has what the plain program has, and no more.
+fn agrees(index: &mut Index, plain: &Plain) -> bool {
+    for blob in &plain.blobs {
+        let read = index.count_read();
+        let links = index.links(&blob.space, &blob.hash, read);
+        if links != blob.links.as_slice() || index.blob(&blob.space, &blob.hash) != Some(blob.row) {
+            return false;
+        }
+    }
+    index.hour() == plain.hour
+        && index.blob_count() == plain.blobs.len() as u64
+        && index.link_count() == plain.link_count()
+        && index.space_count() == plain.spaces.len() as u64
+        && plain
+            .spaces
+            .iter()
+            .all(|row| index.space(&row.0) == Some(row.1))
+        && index.refs().len() == plain.slots.len() as u64
+        && plain
+            .slots
+            .iter()
+            .all(|row| index.refs().get(&row.0) == Some(row.1))
+}
+
+// A fixed generator of numbers: the next is 1,664,525 times the last and 1,013,904,223, of which the upper half is taken.
+#[derive(Drop)]
+struct Draw {
+    last: u32,
+}
+
+impl Draw {
+    fn below(&mut self, count: u32) -> u32 {
+        self.last = self
+            .last
+            .wrapping_mul(1_664_525)
+            .wrapping_add(1_013_904_223);
+        (self.last >> 16) % count.max(1)
+    }
+
+    fn hash(&mut self) -> IoHash {
+        hash_of(self.below(5) as u8)
+    }
+
+    fn space(&mut self) -> Result<Namespace, Fail> {
+        space_of(if self.below(4) == 0 { "other" } else { "game" })
+    }
+
+    fn name(&mut self) -> Result<RefName, Fail> {
+        name_of(
+            if self.below(4) == 0 { "other" } else { "game" },
+            self.below(3) as u8,
+        )
+    }
+
+    fn blob(&mut self, alloc: Global, hash: IoHash) -> Result<Stored, Fail> {
+        let links = [link_to(LinkKind::Object, 1), link_to(LinkKind::Binary, 2)];
+        let count = self.below(3) as usize;
+        let len = self.below(3) as u64 * 4096;
+        Ok(Stored {
+            hash,
+            len,
+            start: self.below(100) as u64,
+            links: Rows::of_vec(Vec::from_slice(alloc, &links[..count])?),
+        })
+    }
+
+    fn entry(&mut self, alloc: Global) -> Result<Entry, Fail> {
+        let hour = self.below(50);
+        let hash = self.hash();
+        Ok(match self.below(8) {
+            0 => Entry::Space {
+                space: self.space()?,
+                ttl: self.below(3),
+                pin: 1,
+            },
+            1 => Entry::Upload {
+                space: self.space()?,
+                blob: self.blob(alloc, hash)?,
+                hour,
+            },
+            2 => Entry::Repin {
+                space: self.space()?,
+                hash,
+                hour,
+            },
+            3 => Entry::Finalise {
+                name: self.name()?,
+                hash,
+                hour,
+            },
+            4 => Entry::Delete {
+                name: self.name()?,
+                hour,
+            },
+            5 => Entry::Touch {
+                name: self.name()?,
+                hour,
+            },
+            _ => {
+                let fresh = if self.below(2) == 0 {
+                    None
+                } else {
+                    Some(self.blob(alloc, hash)?)
+                };
+                Entry::Put {
+                    name: self.name()?,
+                    root: hash,
+                    fresh,
+                    whole: self.below(2) == 0,
+                    hour,
+                }
+            }
+        })
+    }
+}
+
+#[test]
+fn the_index_agrees_with_the_plain_program(rt: HostRuntime) -> Result<(), Fail> {
+    let mut draw = Draw { last: 1 };
+    let mut index = Index::new(rt.alloc(), Limits::standard());
+    let mut plain = Plain::new(rt.alloc());
+    let mut legal: u32 = 0;
+    for turn in 0..400 {
+        let entry = draw.entry(rt.alloc())?;
+        let fits = plain.is_legal(&entry);
+        if fits {
+            plain.change(rt.alloc(), &entry)?;
+            legal = legal.wrapping_add(1);
+        }
+        assert_eq!(rt;
+            apply(rt.alloc(), &mut index, &entry)?,
+            fits,
+            "{turn}: {entry:?}"
+        );
+        assert!(rt; agrees(&mut index, &plain), "{turn}: {entry:?}");
+    }
+    assert!(rt; legal > 100);
+    Ok(())
+}

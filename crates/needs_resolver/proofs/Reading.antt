@@ -1,0 +1,247 @@
+-- What reading objects keeps, how a walk begins, and what its end says.
+use Rattle.std.specs.Prelude.{◌≡◌, ℕ, zero, suc, Bool, true, false, List, [], ◌∷◌, ◌++◌, ◌+◌, ◌≤◌, ◌||◌, cond, not, Option, None, Some, is_some, ◌⊎◌, length, refl, if◌then◌else◌}
+use Rattle.std.proofs.Common.{ap, sym, ◌∙◌, subst, inl, inr, arith}
+use Rattle.std.specs.List.{Contains}
+use Rattle.std.specs.FinMap.{entries, len, len-entries}
+use Rattle.std.specs.Cmp.{eq_by_cmp_equiv}
+use Rattle.std.specs.List.Sorted.{IsStrictlySortedBy}
+use Rattle.std.specs.BTreeMap.{is_at}
+use Rattle.std.specs.Option.{unwrap_or}
+use Rattle.ddc_names.specs.declared.hash.IoHash.{IoHash}
+use Rattle.ddc_names.specs.Orders.{io_hash_cmp, io_hash_total}
+use Rattle.cb_fields.specs.declared.links.Link.{Link}
+use Rattle.cb_fields.specs.declared.links.LinkKind.{LinkKind}
+use Rattle.cb_fields.specs.declared.links.LinkKind.TheVariants.{Object, Binary}
+use Rattle.ddc_model.specs.declared.rows.Blob.{Blob}
+use Rattle.ddc_model.specs.declared.rows.BlobName.{BlobName}
+use Rattle.ddc_model.specs.State.{State}
+use Rattle.ddc_model.specs.Closure.{Links, with_links, object, LeadsTo, Walk, IsReached, IsMissing, has_hash, AreNeeds}
+use Rattle.needs_resolver.specs.Walking.{Met, InWork, IsCovered, IsRead, IsKnown, IsWalk, IsMet, AreMet, IsObjectRead, AreRead, unmet, most_reads}
+use Rattle.needs_resolver.proofs.Meeting.{in_pop, in_push, tied_itself, tied_same}
+
+abbrev Test : Type 0
+Test = IoHash → Bool
+
+some_same : {X : Type 0} (o : Option X) (x y : X) → o ≡ Some x → o ≡ Some y → x ≡ y
+some_same o x y e f = cc
+
+no_some_none : {X : Type 0} (o : Option X) (x : X) → o ≡ None → o ≡ Some x → ⊥
+no_some_none o x e f = cc
+
+is_none : {X : Type 0} (o : Option X) → is_some o ≡ true → o ≡ None → ⊥
+is_none o t e = let f : is_some o ≡ false = ap is_some e in cc
+
+-- the held object's links are all covered, so it is held no longer
+let_go : (base links : Links) (root held : IoHash) (seen absent : Test) (ahead : List IoHash) → IsRead base links seen absent held → IsWalk base links root seen absent (held ∷ ahead) → IsWalk base links root seen absent ahead
+let_go base links root held seen absent ahead done walk = record {
+  seen_reached = walk.seen_reached;
+  absent_missing = walk.absent_missing;
+  ahead_seen = λ h t. walk.ahead_seen h (inr t);
+  read = λ h t. elim (walk.read h t) [
+    | inl y ↦ elim y [ inl z ↦ inr (subst (IsRead base links seen absent) z done) | inr z ↦ inl z ]
+    | inr r ↦ inr r
+  ];
+}
+
+-- once its links are met, the held object is read
+pub held_read : (base links : Links) (root held : IoHash) (found : List Link) (old new : Met)
+    → links held ≡ Some found → IsKnown base links old.seen old.work → IsWalk base links root old.seen old.absent (held ∷ old.work) → AreMet base found (length found) old new → IsWalk base links root new.seen new.absent new.work
+held_read base links root held found old new there known walk met =
+    let reached : IsReached links root (object held) = walk.seen_reached held (walk.ahead_seen held (inl refl)) in
+    let_go base links root held new.seen new.absent new.work
+    (λ others e node c. let same : others ≡ found = some_same _ _ _ e there in let d : Contains found node = subst (λ (xs : List Link). Contains xs node) same c in
+    subst (IsCovered base new.seen new.absent) d.2 (met.covered d.0 node d.1))
+    (met.kept links root held known (λ node c. (suc reached.0, (object held, reached.1, (refl, found, there, c)))) walk)
+
+-- a stored object whose links were met
+pub read_present : (base : Links) (held : IoHash) (found : List Link) (old new : Met) → base held ≡ Some found → AreMet base found (length found) old new → IsObjectRead base held old new
+read_present base held found old new there met = record {
+  known = met.known;
+  kept = λ links root known same walk. held_read base links root held found old new (same ∙ there) known walk met;
+  still = met.still;
+}
+
+nothing_in : (node : Link) → Contains [] node → ⊥
+nothing_in node c = absurd (omega (arith, c.1))
+
+-- a blob that isn't there has no links
+pub read_absent : (base : Links) (held : IoHash) (old new : Met) → base held ≡ None → AreMet base [] 0 old new → IsObjectRead base held old new
+read_absent base held old new none met = record {
+  known = met.known;
+  kept = λ links root known same walk. let_go base links root held new.seen new.absent new.work (λ others e node c. absurd (no_some_none _ _ (same ∙ none) e))
+      (met.kept links root held known (λ node c. absurd (nothing_in node c)) walk);
+  still = met.still;
+}
+
+-- the links that an index gives out for a blob
+pub read_any : (base : Links) (held : IoHash) (old new : Met) → AreMet base (unwrap_or (base held) []) (length (unwrap_or (base held) [])) old new → IsObjectRead base held old new
+read_any base held old new met = split (base held) refl met where
+  split : (o : Option (List Link)) → base held ≡ o → AreMet base (unwrap_or o []) (length (unwrap_or o [])) old new → IsObjectRead base held old new
+  split (Some found) e m = read_present base held found old new e m
+  split None e m = read_absent base held old new e m
+
+-- ---- the loop
+
+pub none_read : (base : Links) (met : Met) → AreRead base met met
+none_read base met = record {
+  known = λ links k. k;
+  kept = λ links root k walk. walk;
+  still = λ node c. c;
+}
+
+popped_known : (base links : Links) (seen : Test) (work : List IoHash) (held : IoHash) → IsKnown base links seen (work ++ held ∷ []) → IsKnown base links seen work
+popped_known base links seen work held k = record {
+  present = k.present;
+  others = k.others;
+  unread = λ h i. k.unread h (in_push work held h (inr i));
+}
+
+popped : (base links : Links) (root held : IoHash) (seen absent : Test) (work : List IoHash) → IsWalk base links root seen absent (work ++ held ∷ []) → IsWalk base links root seen absent (held ∷ work)
+popped base links root held seen absent work walk = record {
+  seen_reached = walk.seen_reached;
+  absent_missing = walk.absent_missing;
+  ahead_seen = λ h t. walk.ahead_seen h (in_push work held h t);
+  read = λ h t. elim (walk.read h t) [ inl y ↦ inl (in_pop work held h y) | inr r ↦ inr r ];
+}
+
+-- one object more is taken from the end of the work list and read
+pub read_more : (base : Links) (held : IoHash) (old now left new : Met) → now.seen ≡ left.seen → now.absent ≡ left.absent → now.work ≡ left.work ++ held ∷ []
+    → AreRead base old now → IsObjectRead base held left new → AreRead base old new
+read_more base held old now left new es ea ew before read = record {
+  known = λ links k. read.known links (known_left links k);
+  kept = λ links root k walk. read.kept links root (known_left links k) ((known_now links k).unread held (in_push left.work held held (inl refl)))
+      (popped base links root held left.seen left.absent left.work
+      (subst (IsWalk base links root left.seen left.absent) ew (subst (λ (a : Test). IsWalk base links root left.seen a now.work) ea (subst (λ (s : Test). IsWalk base links root s now.absent now.work) es (before.kept links root k walk)))));
+  still = λ node c. read.still node (subst (λ (a : Test). IsCovered base left.seen a node) ea (subst (λ (s : Test). IsCovered base s now.absent node) es (before.still node c)));
+} where
+  known_now : (links : Links) → IsKnown base links old.seen old.work → IsKnown base links left.seen (left.work ++ held ∷ [])
+  known_now links k = subst (IsKnown base links left.seen) ew (subst (λ (s : Test). IsKnown base links s now.work) es (before.known links k))
+
+  known_left : (links : Links) → IsKnown base links old.seen old.work → IsKnown base links left.seen left.work
+  known_left links k = popped_known base links left.seen left.work held (known_now links k)
+
+-- ---- how a walk begins
+
+pub no_keys : (keys : List IoHash) (h : IoHash) → keys ≡ [] → has_hash keys h ≡ false
+no_keys keys h e = ap (λ (ks : List IoHash). has_hash ks h) e
+
+pub one_key : (keys : List IoHash) (root h : IoHash) → keys ≡ root ∷ [] → has_hash keys h ≡ is_at (io_hash_cmp root) h
+one_key keys root h e = ap (λ (ks : List IoHash). has_hash ks h) e ∙ alone (is_at (io_hash_cmp h) root) ∙ (eq_by_cmp_equiv io_hash_total).symm h root where
+  alone : (b : Bool) → (b || false) ≡ b
+  alone true = refl
+  alone false = refl
+
+-- where the root is met as any node is
+pub begins_known : (base : Links) (root : IoHash) (old new : Met) → ((h : IoHash) → old.seen h ≡ false) → IsMet base (object root) old new → IsKnown base base new.seen new.work
+begins_known base root old new none met = record {
+  present = λ h t. elim (met.seen_new h t) [ inl x ↦ absurd (let e : old.seen h ≡ false = none h in cc) | inr p ↦ p.2 ];
+  others = λ h f. refl;
+  unread = λ h i. refl;
+}
+
+pub begins_walk : (base : Links) (root : IoHash) (old new : Met) → ((h : IoHash) → old.seen h ≡ false) → ((h : IoHash) → old.absent h ≡ false) → old.work ≡ [] → IsMet base (object root) old new
+    → IsWalk base base root new.seen new.absent new.work
+begins_walk base root old new none clear empty met = record {
+  seen_reached = λ h t. elim (met.seen_new h t) [ inl x ↦ absurd (let e : old.seen h ≡ false = none h in cc) | inr p ↦ (0, sym p.0) ];
+  absent_missing = λ h t. elim (met.absent_new h t) [ inl x ↦ absurd (let e : old.absent h ≡ false = clear h in cc) | inr p ↦ (p.2, Object, (0, ap object (sym p.0))) ];
+  ahead_seen = λ h t. elim (met.work_new h t) [ inl x ↦ absurd (subst (λ (xs : List IoHash). InWork xs h) empty x) | inr y ↦ y.0 ];
+  read = λ h t. elim (met.seen_new h t) [ inl x ↦ absurd (let e : old.seen h ≡ false = none h in cc) | inr p ↦ inl p.1 ];
+}
+
+-- where the root has links that aren't stored
+module _ (base : Links) (root : IoHash) (fresh : List Link) (old : Met) (only : (h : IoHash) → old.seen h ≡ is_at (io_hash_cmp root) h) (none : (h : IoHash) → old.absent h ≡ false) (empty : old.work ≡ []) where
+  abbrev links : Links
+  links = with_links base root fresh
+
+  pub fresh_known : IsKnown base links old.seen old.work
+  fresh_known = record {
+    present = λ h t. at_root h (sym (only h) ∙ t);
+    others = λ h f. elsewhere h (sym (only h) ∙ f);
+    unread = λ h i. absurd (subst (λ (xs : List IoHash). InWork xs h) empty i);
+  } where
+    at_root : (h : IoHash) → is_at (io_hash_cmp root) h ≡ true → is_some (links h) ≡ true
+    at_root h t = ap (λ (b : Bool). is_some (if b then Some fresh else base h)) t
+
+    elsewhere : (h : IoHash) → is_at (io_hash_cmp root) h ≡ false → links h ≡ base h
+    elsewhere h f = ap (λ (b : Bool). if b then Some fresh else base h) f
+
+  fresh_begins : IsWalk base links root old.seen old.absent (root ∷ old.work)
+  fresh_begins = record {
+    seen_reached = λ h t. (0, ap object (is_root h t));
+    absent_missing = λ h t. absurd (let e : old.absent h ≡ false = none h in cc);
+    ahead_seen = λ h t. elim t [ inl e ↦ only h ∙ subst (λ (g : IoHash). is_at (io_hash_cmp root) g ≡ true) e (tied_itself root) | inr i ↦ absurd (subst (λ (xs : List IoHash). InWork xs h) empty i) ];
+    read = λ h t. inl (inl (is_root h t));
+  } where
+    is_root : (h : IoHash) → old.seen h ≡ true → root ≡ h
+    is_root h t = tied_same root h (sym (only h) ∙ t)
+
+  pub fresh_walk : (new : Met) → AreMet base fresh (length fresh) old new → IsWalk base links root new.seen new.absent new.work
+  fresh_walk new met = held_read base links root root fresh old new (ap (λ (b : Bool). if b then Some fresh else base root) (tied_itself root)) fresh_known fresh_begins met
+
+  pub root_covered : IsCovered base old.seen old.absent (object root)
+  root_covered = inr (inl (only root ∙ tied_itself root))
+
+-- ---- what the end says
+
+module _ (base links : Links) (root : IoHash) (end : Met) (known : IsKnown base links end.seen []) (walk : IsWalk base links root end.seen end.absent []) (start : IsCovered base end.seen end.absent (object root)) where
+  -- each reached node is covered
+  all_covered : (n : ℕ) (node : Link) → Walk links (object root) node n → IsCovered base end.seen end.absent node
+  all_covered zero node w = subst (IsCovered base end.seen end.absent) w start
+  all_covered (suc n) node w =
+      let before : Link = w.0 in
+      let leads : LeadsTo links before node = w.2 in
+      elim (all_covered n before w.1) [
+        | inl x ↦ absurd (no_some_none (links before.hash) leads.1 ((walk.absent_missing before.hash x).0) leads.2)
+        | inr p ↦ elim p [
+          | inl t ↦ elim (walk.read before.hash t) [ inl i ↦ absurd i | inr r ↦ r leads.1 leads.2 node leads.3 ]
+          | inr q ↦ absurd (not_both before.kind q.0 leads.0)
+        ]
+      ] where
+        not_both : (kind : LinkKind) → kind ≡ Binary → kind ≡ Object → ⊥
+        not_both kind b o = let e : Binary ≡ Object = sym b ∙ o in cc
+
+  present_stays : (h : IoHash) (b : Bool) → end.seen h ≡ b → is_some (base h) ≡ true → links h ≡ None → ⊥
+  present_stays h true e there none = is_none (links h) (known.present h e) none
+  present_stays h false e there none = is_none (base h) there (sym (known.others h e) ∙ none)
+
+  missing_noted : (h : IoHash) → IsMissing links root h → end.absent h ≡ true
+  missing_noted h missing = elim (all_covered missing.2.0 (record { kind = missing.1; hash = h }) missing.2.1) [
+    | inl x ↦ x
+    | inr p ↦ elim p [
+      | inl t ↦ absurd (is_none (links h) (known.present h t) missing.0)
+      | inr q ↦ absurd (present_stays h (end.seen h) refl q.1 missing.0)
+    ]
+  ]
+
+  -- a finished walk has noted exactly what is missing
+  pub walk_ends : (needs : List IoHash) → ((h : IoHash) → end.absent h ≡ has_hash needs h) → IsStrictlySortedBy io_hash_cmp needs → AreNeeds links root needs
+  walk_ends needs is sorted = record {
+    ascending = sorted;
+    exactly = λ h. ((λ t. walk.absent_missing h (is h ∙ t)), (λ m. sym (is h) ∙ missing_noted h m));
+  }
+
+-- a walk that has read all says what is missing
+pub all_read : (base links : Links) (root : IoHash) (begun ended : Met) (needs : List IoHash)
+    → IsKnown base links begun.seen begun.work → IsWalk base links root begun.seen begun.absent begun.work → IsCovered base begun.seen begun.absent (object root)
+    → AreRead base begun ended → ended.work ≡ [] → ((h : IoHash) → ended.absent h ≡ has_hash needs h) → IsStrictlySortedBy io_hash_cmp needs → AreNeeds links root needs
+all_read base links root begun ended needs known walk start read done is sorted =
+    walk_ends base links root ended (subst (IsKnown base links ended.seen) done (read.known links known)) (subst (IsWalk base links root ended.seen ended.absent) done (read.kept links root known walk)) (read.still (object root) start) needs is sorted
+
+-- how many objects a walk reads that has none to read yet
+most_unmet : (seen : Test) (es : List (BlobName × Blob)) → unmet seen es ≤ length es
+most_unmet seen [] = omega arith
+most_unmet seen (e ∷ es) = one (seen e.0.hash) _ _ (most_unmet seen es) where
+  one : (b : Bool) (n m : ℕ) → n ≤ m → cond (not b) 1 0 + n ≤ suc m
+  one true n m l = omega arith
+  one false n m l = omega arith
+
+most_at_first : (state : State) (met : Met) → met.work ≡ [] → most_reads state met ≤ len state.blobs
+most_at_first state met none =
+    let unread : length met.work ≡ 0 = ap (λ (xs : List IoHash). length xs) none in
+    let most : unmet met.seen (entries state.blobs) ≤ length (entries state.blobs) = most_unmet met.seen (entries state.blobs) in
+    let blobs : len state.blobs ≡ length (entries state.blobs) = len-entries state.blobs in
+    omega arith
+
+-- how many objects are read from the beginning of a walk on
+pub reads_at_most : (state : State) (old begun : Met) (before after : ℕ) → old.work ≡ [] → most_reads state begun ≤ most_reads state old → after ≤ before + most_reads state begun → after ≤ before + len state.blobs
+reads_at_most state old begun before after none less counted = let first : most_reads state old ≤ len state.blobs = most_at_first state old none in omega arith

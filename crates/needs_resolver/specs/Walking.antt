@@ -1,0 +1,88 @@
+-- What a walk over a closure keeps. `base` has the links of each stored blob, and `links` those that the walk goes by.
+use Rattle.std.specs.Prelude.{◌≡◌, ℕ, ◌+◌, ◌<◌, Bool, true, false, not, cond, List, [], ◌∷◌, Option, None, Some, is_some, ◌⊎◌, length, slice_index_or}
+use Rattle.std.specs.List.{Contains}
+use Rattle.std.specs.FinMap.{entries}
+use Rattle.std.specs.BTreeSet.{contains}
+use Rattle.ddc_names.specs.Orders.{io_hash_cmp}
+use Rattle.ddc_names.specs.declared.hash.IoHash.{IoHash}
+use Rattle.cb_fields.specs.declared.links.Link.{Link}
+use Rattle.cb_fields.specs.declared.links.LinkKind.TheVariants.{Object, Binary}
+use Rattle.ddc_model.specs.declared.rows.Blob.{Blob}
+use Rattle.ddc_model.specs.declared.rows.BlobName.{BlobName}
+use Rattle.ddc_model.specs.State.{State}
+use Rattle.needs_resolver.specs.declared.walk.Walk.{Walk}
+use Rattle.ddc_model.specs.Closure.{Links, object, IsReached, IsMissing}
+
+-- the objects that were met, the absent hashes that were met, and the objects whose links are still to be read
+pub record Met : Type 0 where
+  pub seen : IoHash → Bool
+  pub absent : IoHash → Bool
+  pub work : List IoHash
+
+-- what a walk has met
+abbrev pub met_of : Walk → Met
+met_of walk = record { seen = contains io_hash_cmp walk.seen; absent = contains io_hash_cmp walk.absent; work = walk.work.items }
+
+-- the hash stands in the list
+abbrev pub InWork : List IoHash → IoHash → Type 0
+InWork [] h = ⊥
+InWork (x ∷ xs) h = (x ≡ h) ⊎ InWork xs h
+
+-- the walk has met the node: its hash is absent, or an object that was met, or a blob that is no object and is stored
+abbrev pub IsCovered : Links → (IoHash → Bool) → (IoHash → Bool) → Link → Type 0
+IsCovered base seen absent node = (absent node.hash ≡ true) ⊎ ((seen node.hash ≡ true) ⊎ ((node.kind ≡ Binary) × (is_some (base node.hash) ≡ true)))
+
+-- all links of an object are covered
+abbrev pub IsRead : Links → Links → (IoHash → Bool) → (IoHash → Bool) → IoHash → Type 0
+IsRead base links seen absent h = (found : List Link) → links h ≡ Some found → (node : Link) → Contains found node → IsCovered base seen absent node
+
+-- the links that are walked are the stored ones, but of objects that were met
+pub record IsKnown (base links : Links) (seen : IoHash → Bool) (work : List IoHash) : Type 0 where
+  pub present : (h : IoHash) → seen h ≡ true → is_some (links h) ≡ true
+  pub others : (h : IoHash) → seen h ≡ false → links h ≡ base h
+  pub unread : (h : IoHash) → InWork work h → links h ≡ base h
+
+-- all that was met is in the closure, and each object that was met is in the list or is read
+pub record IsWalk (base links : Links) (root : IoHash) (seen absent : IoHash → Bool) (ahead : List IoHash) : Type 0 where
+  pub seen_reached : (h : IoHash) → seen h ≡ true → IsReached links root (object h)
+  pub absent_missing : (h : IoHash) → absent h ≡ true → IsMissing links root h
+  pub ahead_seen : (h : IoHash) → InWork ahead h → seen h ≡ true
+  pub read : (h : IoHash) → seen h ≡ true → InWork ahead h ⊎ IsRead base links seen absent h
+
+-- what meeting one node changes
+pub record IsMet (base : Links) (node : Link) (old new : Met) : Type 0 where
+  pub covered : IsCovered base new.seen new.absent node
+  pub seen_kept : (h : IoHash) → old.seen h ≡ true → new.seen h ≡ true
+  pub absent_kept : (h : IoHash) → old.absent h ≡ true → new.absent h ≡ true
+  pub seen_new : (h : IoHash) → new.seen h ≡ true → (old.seen h ≡ true) ⊎ ((object h ≡ node) × InWork new.work h × (is_some (base h) ≡ true))
+  pub absent_new : (h : IoHash) → new.absent h ≡ true → (old.absent h ≡ true) ⊎ ((h ≡ node.hash) × (old.seen h ≡ false) × (base h ≡ None))
+  pub work_kept : (h : IoHash) → InWork old.work h → InWork new.work h
+  pub work_new : (h : IoHash) → InWork new.work h → InWork old.work h ⊎ ((new.seen h ≡ true) × (old.seen h ≡ false))
+
+-- what meeting the first nodes of a list changes
+pub record AreMet (base : Links) (found : List Link) (count : ℕ) (old new : Met) : Type 0 where
+  pub known : (links : Links) → IsKnown base links old.seen old.work → IsKnown base links new.seen new.work
+  pub kept : (links : Links) (root held : IoHash) → IsKnown base links old.seen old.work → ((node : Link) → Contains found node → IsReached links root node) → IsWalk base links root old.seen old.absent (held ∷ old.work) → IsWalk base links root new.seen new.absent (held ∷ new.work)
+  pub covered : (k : ℕ) (d : Link) → k < count → IsCovered base new.seen new.absent (slice_index_or found k d)
+  pub still : (node : Link) → IsCovered base old.seen old.absent node → IsCovered base new.seen new.absent node
+
+-- what reading the links of an object changes
+pub record IsObjectRead (base : Links) (held : IoHash) (old new : Met) : Type 0 where
+  pub known : (links : Links) → IsKnown base links old.seen old.work → IsKnown base links new.seen new.work
+  pub kept : (links : Links) (root : IoHash) → IsKnown base links old.seen old.work → links held ≡ base held → IsWalk base links root old.seen old.absent (held ∷ old.work) → IsWalk base links root new.seen new.absent new.work
+  pub still : (node : Link) → IsCovered base old.seen old.absent node → IsCovered base new.seen new.absent node
+
+-- what reading objects, and those that are met by that, changes
+pub record AreRead (base : Links) (old new : Met) : Type 0 where
+  pub known : (links : Links) → IsKnown base links old.seen old.work → IsKnown base links new.seen new.work
+  pub kept : (links : Links) (root : IoHash) → IsKnown base links old.seen old.work → IsWalk base links root old.seen old.absent old.work → IsWalk base links root new.seen new.absent new.work
+  pub still : (node : Link) → IsCovered base old.seen old.absent node → IsCovered base new.seen new.absent node
+
+-- how many blobs have a hash that isn't met
+abbrev pub unmet : (IoHash → Bool) → List (BlobName × Blob) → ℕ
+unmet seen [] = 0
+unmet seen (e ∷ es) = cond (not (seen e.0.hash)) 1 0 + unmet seen es
+
+-- how many objects can still be read
+abbrev pub most_reads : State → Met → ℕ
+most_reads state met = unmet met.seen (entries state.blobs) + length met.work
