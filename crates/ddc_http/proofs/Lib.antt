@@ -1,4 +1,6 @@
+pub mod Asked
 pub mod Heads
+pub mod Lists
 pub mod Named
 pub mod Numbers
 pub mod Taken

@@ -1,7 +1,7 @@
 -- What was taken of the bytes ahead.
-use Rattle.std.proofs.Common.{◌≡◌, ◌⊎◌, ℕ, ◌≤◌, ◌<◌, ◌+◌, ◌-◌, List, [], ◌++◌, length, take, drop, refl, sym, ap, ◌∙◌, subst, append_assoc, append-nil, arith, Option, Some, None, Result, Ok, Err, IfSome, length-append, take-append-drop, inl, inr}
+use Rattle.std.proofs.Common.{◌≡◌, ◌⊎◌, ℕ, ◌≤◌, ◌<◌, ◌+◌, ◌-◌, ◌^◌, min, List, [], ◌++◌, length, take, drop, refl, sym, ap, ◌∙◌, subst, append_assoc, append-nil, arith, Option, Some, None, Result, Ok, Err, IfSome, length-append, take-append-drop, inl, inr}
 use Rattle.std.proofs.Math.Seq.{take-add}
-use Rattle.std.proofs.lemmas.List.{length-drop, take_at}
+use Rattle.std.proofs.lemmas.List.{length-drop, length-take-le, take_at}
 use Rattle.std.specs.Prelude.{Vec}
 use Rattle.std.specs.declared.alloc.Global.{Global}
 use Rattle.std.specs.Io.KnownBytes.{Keeps, Consumes, IsAtEnd, prepend_known}
@@ -10,13 +10,11 @@ use Rattle.httparse.proofs.GrammarLemmas.{request_unique}
 use Rattle.ddc_protocol.specs.declared.form.Form.{Form}
 use Rattle.ddc_protocol.proofs.Once.{behind_head}
 use Rattle.ddc_protocol.specs.Form.{form_of}
-use Rattle.ddc_protocol.specs.Requests.{IsHead, HasNoHead, body_length, Item, mismatch, item_of, Spells, IsCut, HasNoItem}
-use Rattle.ddc_names.specs.declared.hash.IoHash.{IoHash}
-use Rattle.ddc_protocol.specs.declared.form.Form.TheVariants.{Put}
+use Rattle.ddc_protocol.specs.Requests.{IsHead, HasNoHead, body_length, Item, mismatch, not_object, Asks, Spells, IsCut, HasNoItem, IsUnread}
 use Rattle.ddc_http.specs.declared.request.Request.{Request}
 use Rattle.ddc_http.specs.declared.request.HttpFault.{HttpFault}
-use Rattle.ddc_http.specs.declared.request.HttpFault.TheVariants.{Unread, Cut, HashMismatch, ReadFailed, NoMemory}
-use Rattle.ddc_http.specs.Reader.{HeadAt, BodyAt, BodyAs, HasItem, StoresAs, Answers, asked, place_behind}
+use Rattle.ddc_http.specs.declared.request.HttpFault.TheVariants.{Unread, Cut, HashMismatch, NotAnObject, ReadFailed, NoMemory}
+use Rattle.ddc_http.specs.Reader.{HeadAt, BodyAt, BodyAs, HasItem, AskedAs, Answers, asked, place_behind}
 
 pub no_item-without_head : (bytes : List ℕ) → HasNoHead bytes → HasNoItem bytes
 no_item-without_head bytes none item text rest s e = none s.head (s.body ++ rest) s.is_head (behind_head bytes text rest item s e)
@@ -128,10 +126,21 @@ kept-consumes (Some x) None after part k c = absurd k
 kept-consumes (Some x) (Some y) None part k c = absurd c
 kept-consumes (Some x) (Some y) (Some z) part k c = sym k ∙ c
 
-kept-known : (before mid : Option (List ℕ)) (P : List ℕ → Type 0) → Keeps before mid → IfSome mid P → IfSome before P
+pub kept-known : (before mid : Option (List ℕ)) (P : List ℕ → Type 0) → Keeps before mid → IfSome mid P → IfSome before P
 kept-known None mid P k h = tt
 kept-known (Some x) None P k h = absurd k
 kept-known (Some x) (Some y) P k h = subst P k h
+
+-- bytes that begin with a head of no form, which more follow
+pub formless : (held : List ℕ) (left : Option (List ℕ)) (len : ℕ) → HeadAt held len None → IfSome (prepend_known held left) IsUnread
+formless held None len h = tt
+formless held (Some y) len h = inr record {
+  head = h.head;
+  rest = drop len held ++ y;
+  is_head = h.is_head;
+  spelled = ap (λ l. l ++ y) h.spelled ∙ append_assoc (print_request h.head) (drop len held) y;
+  asks = sym h.asks;
+}
 
 -- where the bytes have a whole request, its body is among them
 pub whole_held : (bytes : List ℕ) (len size : ℕ) → BodyAt bytes len size → HasItem bytes → len + size ≤ length bytes
@@ -148,8 +157,8 @@ whole_held bytes len size h (item, text, rest, s, e) =
     omega arith
 
 -- the head, and a body of the length that it states
-pub spells : (bytes body : List ℕ) (len : ℕ) (form : Form) (item : Item) → HeadAt bytes len (Some form) → length body ≡ body_length form → item_of form body ≡ item → Spells (take len bytes ++ body) item
-spells bytes body len form item h whole same = record {
+pub spells : (bytes body : List ℕ) (len : ℕ) (form : Form) (item : Item) → HeadAt bytes len (Some form) → length body ≡ body_length form → Asks body form item → Spells (take len bytes ++ body) item
+spells bytes body len form item h whole asked = record {
   head = h.head;
   form = form;
   body = body;
@@ -157,28 +166,62 @@ spells bytes body len form item h whole same = record {
   asks = sym h.asks;
   whole = whole;
   spelled = ap (λ l. l ++ body) (ap (take len) h.spelled ∙ take_at (print_request h.head) (drop len bytes) len (sym h.long));
-  same = sym same;
+  item_is = asked;
 }
 
 -- a body that was not read whole
-pub body_fails : (before mid after left : Option (List ℕ)) (held : List ℕ) (len size from : ℕ) (fault : HttpFault) → Keeps before mid → BodyAs mid after left held len size (Err fault) → Answers before after left from from (Err fault)
-body_fails before mid after left held len size from Unread k h = absurd h
-body_fails before mid after left held len size from Cut k h = (kept-known before mid IsCut k h, refl)
-body_fails before mid after left held len size from (HashMismatch named found) k h = absurd h
-body_fails before mid after left held len size from ReadFailed k (part, lost, none) = ((part, kept-consumes before mid left part k lost, none), refl)
-body_fails before mid after left held len size from NoMemory k h = tt
+pub body_fails : (before after left : Option (List ℕ)) (held : List ℕ) (len size from : ℕ) (fault : HttpFault) → BodyAs before after left held len size (Err fault) → Answers before after left from from (Err fault)
+body_fails before after left held len size from Unread h = absurd h
+body_fails before after left held len size from Cut h = (h, refl)
+body_fails before after left held len size from (HashMismatch named found) h = absurd h
+body_fails before after left held len size from (NotAnObject at) h = absurd h
+body_fails before after left held len size from ReadFailed h = (h, refl)
+body_fails before after left held len size from NoMemory h = tt
 
--- a body that was read whole
-pub body_stored : (before after left : Option (List ℕ)) (held space body : List ℕ) (named : IoHash) (len size from to : ℕ) (result : Result (Option Request) HttpFault)
-    → HeadAt held len (Some (Put space named size)) → Consumes before after (take len held ++ body) → length body ≡ size → to ≡ place_behind from (take len held ++ body)
-    → StoresAs space named body result → Answers before after left from to result
-body_stored before after left held space body named len size from to (Ok (Some request)) h c long place s = (take len held ++ body, spells held body len (Put space named size) (asked request) h long (ap (λ n. item_of (Put space named n) body) (sym long) ∙ s), c, place)
-body_stored before after left held space body named len size from to (Ok None) h c long place s = absurd s
-body_stored before after left held space body named len size from to (Err Unread) h c long place s = absurd s
-body_stored before after left held space body named len size from to (Err Cut) h c long place s = absurd s
-body_stored before after left held space body named len size from to (Err (HashMismatch expected found)) h c long place s = (take len held ++ body, spells held body len (Put space named size) (mismatch expected found) h long (ap (λ n. item_of (Put space named n) body) (sym long) ∙ s), c, place)
-body_stored before after left held space body named len size from to (Err ReadFailed) h c long place s = absurd s
-body_stored before after left held space body named len size from to (Err NoMemory) h c long place s = absurd s
+-- a place behind a head and a body
+pub place_is : (from len size : ℕ) (held body : List ℕ) → len ≤ length held → length body ≡ size → min (from + len + size) (2 ^ 64 - 1) ≡ place_behind from (take len held ++ body)
+place_is from len size held body within whole =
+    let front = length-take-le len held within in
+    let long = length-append (take len held) body in
+    let sum : from + len + size ≡ from + length (take len held ++ body) = omega arith in
+    ap (λ n. min n (2 ^ 64 - 1)) sum
+
+-- a request whose head and body were taken
+pub body_asked : (before after left : Option (List ℕ)) (held : List ℕ) (form : Form) (body : List ℕ) (len from to : ℕ) (result : Result (Option Request) HttpFault)
+    → HeadAt held len (Some form) → Consumes before after (take len held ++ body) → length body ≡ body_length form → to ≡ min (from + len + body_length form) (2 ^ 64 - 1)
+    → AskedAs form body result → Answers before after left from to result
+body_asked before after left held form body len from to (Ok (Some request)) h c whole place a =
+    (take len held ++ body, spells held body len form (asked request) h whole a, c, place ∙ place_is from len (body_length form) held body h.within whole)
+body_asked before after left held form body len from to (Ok None) h c whole place a = absurd a
+body_asked before after left held form body len from to (Err Unread) h c whole place a = absurd a
+body_asked before after left held form body len from to (Err Cut) h c whole place a = absurd a
+body_asked before after left held form body len from to (Err (HashMismatch named found)) h c whole place a =
+    (take len held ++ body, spells held body len form (mismatch named found) h whole a, c, place ∙ place_is from len (body_length form) held body h.within whole)
+body_asked before after left held form body len from to (Err (NotAnObject at)) h c whole place a =
+    (take len held ++ body, spells held body len form (not_object at) h whole a, c, place ∙ place_is from len (body_length form) held body h.within whole)
+body_asked before after left held form body len from to (Err ReadFailed) h c whole place a = absurd a
+body_asked before after left held form body len from to (Err NoMemory) h c whole place a = tt
+
+-- a request without a body
+pub head_asked : (left : Option (List ℕ)) (held now : List ℕ) (form : Form) (len from to : ℕ) (request : Request)
+    → HeadAt held len (Some form) → now ≡ drop len held → body_length form ≡ 0 → to ≡ min (from + len + 0) (2 ^ 64 - 1)
+    → Asks [] form (asked request) → Answers (prepend_known held left) (prepend_known now left) left from to (Ok (Some request))
+head_asked left held now form len from to request h rest none place a =
+    let P : List ℕ → Type 0 = λ t. Consumes (prepend_known held left) (prepend_known (drop len held) left) t in
+    let Q : List ℕ → Type 0 = λ r. Consumes (prepend_known held left) (prepend_known r left) (take len held ++ []) in
+    let taken = subst Q (sym rest) (subst P (sym (append-nil (take len held))) (consumes-front left held len)) in
+    body_asked (prepend_known held left) (prepend_known now left) left held form [] len from to (Ok (Some request)) h taken (sym none) (place ∙ ap (λ n. min (from + len + n) (2 ^ 64 - 1)) (sym none)) a
+
+-- an answer about bytes that stayed
+pub kept-answers : (before mid after left : Option (List ℕ)) (from to : ℕ) (result : Result (Option Request) HttpFault) → Keeps before mid → Answers mid after left from to result → Answers before after left from to result
+kept-answers before mid after left from to (Ok (Some request)) k (text, s, c, place) = (text, s, kept-consumes before mid after text k c, place)
+kept-answers before mid after left from to (Ok None) k (known, end, place) = (kept-known before mid (λ bytes. bytes ≡ []) k known, end, place)
+kept-answers before mid after left from to (Err Unread) k (known, place) = (kept-known before mid IsUnread k known, place)
+kept-answers before mid after left from to (Err Cut) k (known, place) = (kept-known before mid IsCut k known, place)
+kept-answers before mid after left from to (Err (HashMismatch named found)) k (text, s, c, place) = (text, s, kept-consumes before mid after text k c, place)
+kept-answers before mid after left from to (Err (NotAnObject at)) k (text, s, c, place) = (text, s, kept-consumes before mid after text k c, place)
+kept-answers before mid after left from to (Err ReadFailed) k ((part, lost, none), place) = ((part, kept-consumes before mid left part k lost, none), place)
+kept-answers before mid after left from to (Err NoMemory) k h = tt
 
 -- what is ahead stays where a piece of the source is held behind the rest
 pub keeps-more : (before left after : Option (List ℕ)) (held piece : List ℕ) → Keeps before (prepend_known held left) → Consumes left after piece → Keeps before (prepend_known (held ++ piece) after)

@@ -1,4 +1,4 @@
--- The names and hashes in a target are text.
+-- The names, keys and hashes in a target are text.
 use Rattle.std.proofs.Common.{◌≡◌, ℕ, ◌<◌, ◌-◌, true, List, [], ◌∷◌, refl, arith, Option, Some, None}
 use Rattle.std.specs.Prelude.{IsUtf8, IsAscii}
 use Rattle.std.specs.List.{AllPass}
@@ -9,7 +9,7 @@ use Rattle.std.proofs.lemmas.Str.{IsUtf8-from_ascii}
 use Rattle.std.proofs.lemmas.Str.Ascii.{IsAscii-nil, IsAscii-cons}
 use Rattle.hex.specs.Hex.{is_hex_digit}
 use Rattle.ddc_names.specs.Texts.{name_fault, digits_fault, bytes_of}
-use Rattle.ddc_names.specs.Names.{checked, name_of, hash_of}
+use Rattle.ddc_names.specs.Names.{checked, name_of, key_of, hash_of}
 use Rattle.ddc_names.proofs.Laws.{IsUtf8-name, digits_fault-none}
 
 -- a text with no fault spells the value, and another spells none
@@ -30,5 +30,11 @@ digits_ascii : (text : List ℕ) → AllPass is_hex_digit text → IsAscii text
 digits_ascii [] h = IsAscii-nil
 digits_ascii (b ∷ text) h = IsAscii-cons b text (digit_ascii b (All-head IsDigit b text h)) (digits_ascii text (All-tail IsDigit b text h))
 
+digits_utf8 : (text : List ℕ) → digits_fault text ≡ None → IsUtf8 text
+digits_utf8 text none = IsUtf8-from_ascii text (digits_ascii text ((digits_fault-none text).0 none).1)
+
+pub no_key : (text : List ℕ) → ¬ (IsUtf8 text) → result_ok (key_of text) ≡ None
+no_key text h = spells_none (digits_fault text) (record { 0 = bytes_of text }) (λ none. h (digits_utf8 text none))
+
 pub no_hash : (text : List ℕ) → ¬ (IsUtf8 text) → hash_of text ≡ None
-no_hash text h = spells_none (digits_fault text) (record { 0 = bytes_of text }) (λ none. h (IsUtf8-from_ascii text (digits_ascii text ((digits_fault-none text).0 none).1)))
+no_hash text h = spells_none (digits_fault text) (record { 0 = bytes_of text }) (λ none. h (digits_utf8 text none))

@@ -3,18 +3,17 @@ use Rattle.std.specs.Prelude.{◌==◌, ◌≡◌, ℕ, ◌+◌, ◌-◌, ◌^�
 use Rattle.std.specs.Io.KnownBytes.{Consumes, Keeps, IsAtEnd}
 use Rattle.httparse.specs.Grammar.{RequestHead, IsRequestHead, print_request, HasNoRequest}
 use Rattle.httparse.specs.Spans.{RequestOverflows}
+use Rattle.cb_fields.specs.Fault.{FaultAt}
 use Rattle.ddc_protocol.specs.declared.form.Form.{Form}
-use Rattle.ddc_names.specs.declared.hash.IoHash.{IoHash}
-use Rattle.ddc_protocol.specs.declared.form.Form.TheVariants.{Put}
 use Rattle.ddc_protocol.specs.Form.{form_of}
-use Rattle.ddc_protocol.specs.Requests.{IsHead, HasNoHead, NeverHasHead, body_length, Item, item_of, put, get, mismatch, Spells, IsUnread, IsCut, HasNoItem}
+use Rattle.ddc_protocol.specs.Requests.{IsHead, HasNoHead, NeverHasHead, body_length, Item, put_blob, get_blob, put_ref, get_ref, finalise, mismatch, not_object, Asks, Spells, IsUnread, IsCut, HasNoItem}
 use Rattle.ddc_http.specs.declared.head.Found.{Found}
 use Rattle.ddc_http.specs.declared.head.Found.TheVariants.{More, Never, Head}
 use Rattle.ddc_http.specs.declared.request.Ask.{Ask}
-use Rattle.ddc_http.specs.declared.request.Ask.TheVariants.{PutBlob, GetBlob}
+use Rattle.ddc_http.specs.declared.request.Ask.TheVariants.{PutBlob, GetBlob, PutRef, GetRef, Finalise}
 use Rattle.ddc_http.specs.declared.request.Request.{Request}
 use Rattle.ddc_http.specs.declared.request.HttpFault.{HttpFault}
-use Rattle.ddc_http.specs.declared.request.HttpFault.TheVariants.{Unread, Cut, HashMismatch, ReadFailed, NoMemory}
+use Rattle.ddc_http.specs.declared.request.HttpFault.TheVariants.{Unread, Cut, HashMismatch, NotAnObject, ReadFailed, NoMemory}
 
 -- the bytes begin with a head of this length, which asks for this
 pub record HeadAt (bytes : List ℕ) (len : ℕ) (found : Option Form) : Type 0 where
@@ -52,8 +51,11 @@ abbrev pub asked : Request → Item
 asked request = asks request.ask
   where
     asks : Ask → Item
-    asks (PutBlob space blob) = put space blob
-    asks (GetBlob space hash) = get space hash
+    asks (PutBlob space blob) = put_blob space blob
+    asks (GetBlob space hash) = get_blob space hash
+    asks (PutRef name object) = put_ref name object
+    asks (GetRef name) = get_ref name
+    asks (Finalise name hash) = finalise name hash
 
 -- a front of the bytes is a whole request
 abbrev pub HasItem : List ℕ → Type 0
@@ -84,6 +86,7 @@ FillsAs before after left held (Err NoMemory) = ⊤
 FillsAs before after left held (Err Unread) = ⊥
 FillsAs before after left held (Err Cut) = ⊥
 FillsAs before after left held (Err (HashMismatch named found)) = ⊥
+FillsAs before after left held (Err (NotAnObject at)) = ⊥
 
 -- the head at the front of what is held, or why there is none
 abbrev pub HeadsAs : Option (List ℕ) → Option (List ℕ) → Option (List ℕ) → List ℕ → Result (Option (ℕ × Form)) HttpFault → Type 0
@@ -94,6 +97,7 @@ HeadsAs before after left held (Err Cut) = IfSome before IsCut
 HeadsAs before after left held (Err ReadFailed) = LosesPart before left
 HeadsAs before after left held (Err NoMemory) = ⊤
 HeadsAs before after left held (Err (HashMismatch named found)) = ⊥
+HeadsAs before after left held (Err (NotAnObject at)) = ⊥
 
 -- the bytes begin with a head of this length, behind which a body of so many bytes stands
 pub record BodyAt (bytes : List ℕ) (len size : ℕ) : Type 0 where
@@ -109,16 +113,27 @@ BodyAs before after left held len size (Err ReadFailed) = LosesPart before left
 BodyAs before after left held len size (Err NoMemory) = ⊤
 BodyAs before after left held len size (Err Unread) = ⊥
 BodyAs before after left held len size (Err (HashMismatch named found)) = ⊥
+BodyAs before after left held len size (Err (NotAnObject at)) = ⊥
 
--- a body is a request where it has the hash named
-abbrev pub StoresAs : List ℕ → IoHash → List ℕ → Result (Option Request) HttpFault → Type 0
-StoresAs space named body (Ok (Some request)) = item_of (Put space named (length body)) body ≡ asked request
-StoresAs space named body (Ok None) = ⊥
-StoresAs space named body (Err (HashMismatch expected found)) = item_of (Put space named (length body)) body ≡ mismatch expected found
-StoresAs space named body (Err Unread) = ⊥
-StoresAs space named body (Err Cut) = ⊥
-StoresAs space named body (Err ReadFailed) = ⊥
-StoresAs space named body (Err NoMemory) = ⊥
+-- what a request of this form asks with this body, or the fault that its body is
+abbrev pub AskedAs : Form → List ℕ → Result (Option Request) HttpFault → Type 0
+AskedAs form body (Ok (Some request)) = Asks body form (asked request)
+AskedAs form body (Ok None) = ⊥
+AskedAs form body (Err (HashMismatch named found)) = Asks body form (mismatch named found)
+AskedAs form body (Err (NotAnObject at)) = Asks body form (not_object at)
+AskedAs form body (Err Unread) = ⊥
+AskedAs form body (Err Cut) = ⊥
+AskedAs form body (Err ReadFailed) = ⊥
+AskedAs form body (Err NoMemory) = ⊤
+
+-- the fault names the place at which a body that is no object breaks the rules
+abbrev pub BreaksAs : List ℕ → HttpFault → Type 0
+BreaksAs body (NotAnObject at) = FaultAt body at
+BreaksAs body (HashMismatch named found) = ⊥
+BreaksAs body Unread = ⊥
+BreaksAs body Cut = ⊥
+BreaksAs body ReadFailed = ⊥
+BreaksAs body NoMemory = ⊤
 
 -- what a call answered, by the bytes ahead before and after it, what the source has left, and the places
 abbrev pub Answers : Option (List ℕ) → Option (List ℕ) → Option (List ℕ) → ℕ → ℕ → Result (Option Request) HttpFault → Type 0
@@ -127,5 +142,6 @@ Answers before after left from to (Ok None) = IfSome before (λ bytes. bytes ≡
 Answers before after left from to (Err Unread) = IfSome before IsUnread × (to ≡ from)
 Answers before after left from to (Err Cut) = IfSome before IsCut × (to ≡ from)
 Answers before after left from to (Err (HashMismatch named found)) = Takes before after from to (mismatch named found)
+Answers before after left from to (Err (NotAnObject at)) = Takes before after from to (not_object at)
 Answers before after left from to (Err ReadFailed) = LosesPart before left × (to ≡ from)
 Answers before after left from to (Err NoMemory) = ⊤

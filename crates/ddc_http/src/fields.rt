@@ -2,13 +2,10 @@
 ghost use Rattle.std.specs.Prelude.{◌≡◌, ℕ, List, ◌∷◌, length, map, All, codes};
 ghost use Rattle.httparse.specs.Spans.{IsHeaderWithin, header_bytes};
 ghost use Rattle.ddc_protocol.specs.Fields.{same_name, values_of, number};
-ghost use Rattle.ddc_protocol.specs.Form.{is_empty, is_without_body, is_of_bytes, put_length};
+ghost use Rattle.ddc_protocol.specs.Form.{is_empty, is_without_body, is_of_type, put_length};
 ghost use Rattle.ddc_http.specs.Values.{AreValues};
 
 use httparse::spans::HeaderSpan;
-
-/// The most bytes of a blob.
-pub const MOST_BYTES: u64 = 67_108_864;
 
 // The values of the fields of one name.
 #[derive(Clone, Copy)]
@@ -76,21 +73,21 @@ pub fn is_absent(buf: &[u8], headers: &[HeaderSpan], name: &[u8]) -> bool
     matches!(values_of(buf, headers, name), Values::Absent)
 }
 
-// The length of a put's body.
-pub fn put_length(buf: &[u8], headers: &[HeaderSpan]) -> Option<u64>
+// The length of a put's body, of so many bytes at most.
+pub fn put_length(most: u64, buf: &[u8], headers: &[HeaderSpan]) -> Option<u64>
     requires { All (IsHeaderWithin (length buf.now)) headers.now }
-    ensures { result ≡ put_length (values_of (codes "content-length") (map (header_bytes buf.now) headers.now)) }
+    ensures { result ≡ put_length most (values_of (codes "content-length") (map (header_bytes buf.now) headers.now)) }
 {
     match values_of(buf, headers, b"content-length") {
         Values::Once(value) => {
             let size = number_of(value)?;
-            if size <= MOST_BYTES { Some(size) } else { None }
+            if size <= most { Some(size) } else { None }
         }
         _ => None,
     }
 }
 
-// Whether a get states no body.
+// Whether the fields state no body.
 pub fn is_without_body(buf: &[u8], headers: &[HeaderSpan]) -> bool
     requires { All (IsHeaderWithin (length buf.now)) headers.now }
     ensures { result ≡ is_without_body (values_of (codes "content-length") (map (header_bytes buf.now) headers.now)) }
@@ -102,14 +99,14 @@ pub fn is_without_body(buf: &[u8], headers: &[HeaderSpan]) -> bool
     }
 }
 
-// Whether the type of a put's body is one of bytes, or none.
-pub fn is_of_bytes(buf: &[u8], headers: &[HeaderSpan]) -> bool
+// Whether a put's body is of this type, or of none.
+pub fn is_of_type(kind: &[u8], buf: &[u8], headers: &[HeaderSpan]) -> bool
     requires { All (IsHeaderWithin (length buf.now)) headers.now }
-    ensures { result ≡ is_of_bytes (values_of (codes "content-type") (map (header_bytes buf.now) headers.now)) }
+    ensures { result ≡ is_of_type kind.now (values_of (codes "content-type") (map (header_bytes buf.now) headers.now)) }
 {
     match values_of(buf, headers, b"content-type") {
         Values::Absent => true,
-        Values::Once(value) => value == b"application/octet-stream".as_slice(),
-        Values::Repeated(value) => value == b"application/octet-stream".as_slice(),
+        Values::Once(value) => value == kind,
+        Values::Repeated(value) => value == kind,
     }
 }

@@ -1,16 +1,20 @@
 // Requests taken from what is held and from a source.
-ghost use Rattle.std.specs.Prelude.{◌≡◌, ◌≤◌, ◌<◌, ◌+◌, length, vec_len, drop, true};
+ghost use Rattle.std.specs.Prelude.{◌≡◌, ◌≤◌, ◌<◌, ◌+◌, ◌-◌, ◌^◌, min, length, vec_len, drop, true};
 ghost use Rattle.std.specs.Io.KnownBytes.{prepend_known};
 ghost use Rattle.ddc_link.specs.Causes.{Rose};
+ghost use Rattle.cb_fields.specs.Language.{IsNoObject};
 ghost use Rattle.ddc_protocol.specs.Requests.{HasNoHead};
-ghost use Rattle.ddc_http.specs.Reader.{FillsAs, HeadsAs, BodyAs, BodyAt, HasItem, StoresAs, Answers};
+ghost use Rattle.ddc_protocol.specs.declared.form.Form.TheVariants.{PutBlob, PutRef};
+ghost use Rattle.ddc_http.specs.Reader.{FillsAs, HeadsAs, HeadAt, BodyAs, BodyAt, HasItem, AskedAs, BreaksAs, Answers};
 
 use crate::head::{Found, MOST_HEAD, find_head};
 use crate::request::{Ask, HttpFault, Request};
+use cb_fields::{CbFault, check_object};
 use ddc_link::Source;
-use ddc_names::{IoHash, Namespace};
+use ddc_names::{IoHash, Namespace, RefName};
 use ddc_protocol::Form;
-use io_hash::{Intake, Whole};
+use ddc_state::Checked;
+use io_hash::{Intake, IntakeFault, Whole};
 use std::alloc::Global;
 
 /// The most bytes of a head that one call takes from the source.
@@ -101,7 +105,8 @@ fn take_body<S: Source>(
     let mut intake = Intake::new(alloc, size as u64);
     match intake.take(&held[len..len + first]) {
         Ok(()) => {}
-        Err(_) => return Err(HttpFault::NoMemory),
+        Err(IntakeFault::NoMemory) => return Err(HttpFault::NoMemory),
+        Err(IntakeFault::TooLarge { .. }) => unreachable!(),
     }
     drop_front(held, len + first);
     let mut wanted = size - first;
@@ -115,23 +120,131 @@ fn take_body<S: Source>(
         };
         match intake.take(&piece[..count]) {
             Ok(()) => {}
-            Err(_) => return Err(HttpFault::NoMemory),
+            Err(IntakeFault::NoMemory) => return Err(HttpFault::NoMemory),
+            Err(IntakeFault::TooLarge { .. }) => unreachable!(),
         }
         wanted -= count;
     }
     Ok(intake.finish())
 }
 
-// The request whose body has come, where that has the hash named.
-fn stored(space: Namespace, named: IoHash, blob: Whole) -> Result<Option<Request>, HttpFault>
-    ensures { StoresAs space named blob result }
+// The request to store a body, where it has the hash named. Only then is it read.
+fn stored(
+    alloc: Global,
+    space: Namespace,
+    named: IoHash,
+    body: Whole,
+) -> Result<Option<Request>, HttpFault>
+    ensures { AskedAs (PutBlob space named (length body)) body result }
 {
-    let found = blob.hash();
-    if found == named {
-        let ask = Ask::PutBlob { space, blob };
-        Ok(Some(Request { ask }))
-    } else {
-        Err(HttpFault::HashMismatch { named, found })
+    let found = body.hash();
+    if found != named {
+        return Err(HttpFault::HashMismatch { named, found });
+    }
+    match Checked::new(alloc, body) {
+        Ok(blob) => Ok(Some(Request {
+            ask: Ask::PutBlob { space, blob },
+        })),
+        Err(_) => Err(HttpFault::NoMemory),
+    }
+}
+
+// Where a body that is no object breaks the rules.
+fn not_an_object(alloc: Global, body: &[u8]) -> HttpFault
+    requires { IsNoObject body.now }
+    ensures { BreaksAs body.now result }
+{
+    match check_object(alloc, body) {
+        Ok(()) => unreachable!(),
+        Err(CbFault::NotObject { at }) => HttpFault::NotAnObject { at },
+        Err(CbFault::NoMemory) => HttpFault::NoMemory,
+    }
+}
+
+// The request to put a body under a reference, where it is an object.
+fn put(alloc: Global, name: RefName, body: Whole) -> Result<Option<Request>, HttpFault>
+    ensures { AskedAs (PutRef name (length body)) body result }
+{
+    match Checked::new(alloc, body) {
+        Ok(object) => {
+            if object.is_object() {
+                Ok(Some(Request {
+                    ask: Ask::PutRef { name, object },
+                }))
+            } else {
+                Err(not_an_object(alloc, object.whole().bytes()))
+            }
+        }
+        Err(_) => Err(HttpFault::NoMemory),
+    }
+}
+
+// The place behind a head and its body.
+fn place_after(place: u64, len: usize, size: u64) -> u64
+    ensures { result ≡ min (place + len + size) (2 ^ 64 - 1) }
+{
+    place.saturating_add(len as u64).saturating_add(size)
+}
+
+// Takes away a head that no body follows.
+fn pass_head(held: &mut Vec<u8>, place: &mut u64, len: usize)
+    requires { len ≤ vec_len held.old }
+    ensures bytes { held.new.items ≡ drop len held.old.items }
+    ensures place { place.new ≡ min (place.old + len + 0) (2 ^ 64 - 1) }
+{
+    *place = place_after(*place, len, 0);
+    drop_front(held, len);
+}
+
+// Takes the request of this form, whose head stands at the front.
+fn take_request<S: Source>(
+    alloc: Global,
+    source: &mut S,
+    held: &mut Vec<u8>,
+    place: &mut u64,
+    len: usize,
+    form: Form,
+) -> Result<Option<Request>, HttpFault>
+    requires head { HeadAt held.old.items len (Some form) }
+    ensures gives { Answers (prepend_known held.old.items (S.left source.old)) (prepend_known held.new.items (S.left source.new)) (S.left source.new) place.old place.new result }
+    ensures ready { HasItem held.old.items → source.new ≡ source.old }
+    ensures later { S.faults source.old ≤ S.faults source.new }
+    ensures cause { result ≡ Err HttpFault.ReadFailed → Rose (S.faults source.old) (S.faults source.new) }
+{
+    match form {
+        Form::PutBlob(space, named, size) => {
+            match take_body(alloc, source, held, len, size as usize) {
+                Err(fault) => Err(fault),
+                Ok(body) => {
+                    *place = place_after(*place, len, size);
+                    stored(alloc, space, named, body)
+                }
+            }
+        }
+        Form::PutRef(name, size) => {
+            match take_body(alloc, source, held, len, size as usize) {
+                Err(fault) => Err(fault),
+                Ok(body) => {
+                    *place = place_after(*place, len, size);
+                    put(alloc, name, body)
+                }
+            }
+        }
+        Form::GetBlob(space, hash) => {
+            pass_head(held, place, len);
+            let ask = Ask::GetBlob { space, hash };
+            Ok(Some(Request { ask }))
+        }
+        Form::GetRef(name) => {
+            pass_head(held, place, len);
+            let ask = Ask::GetRef { name };
+            Ok(Some(Request { ask }))
+        }
+        Form::Finalise(name, hash) => {
+            pass_head(held, place, len);
+            let ask = Ask::Finalise { name, hash };
+            Ok(Some(Request { ask }))
+        }
     }
 }
 
@@ -147,24 +260,9 @@ pub fn next_request<S: Source>(
     ensures later { S.faults source.old ≤ S.faults source.new }
     ensures cause { result ≡ Err HttpFault.ReadFailed → Rose (S.faults source.old) (S.faults source.new) }
 {
-    let (len, form) = match read_head(source, held) {
-        Err(fault) => return Err(fault),
-        Ok(None) => return Ok(None),
-        Ok(Some(found)) => found,
-    };
-    match form {
-        Form::Get(space, hash) => {
-            drop_front(held, len);
-            *place = place.saturating_add(len as u64);
-            let ask = Ask::GetBlob { space, hash };
-            Ok(Some(Request { ask }))
-        }
-        Form::Put(space, named, size) => match take_body(alloc, source, held, len, size as usize) {
-            Err(fault) => Err(fault),
-            Ok(blob) => {
-                *place = place.saturating_add(len as u64).saturating_add(size);
-                stored(space, named, blob)
-            }
-        },
+    match read_head(source, held) {
+        Err(fault) => Err(fault),
+        Ok(None) => Ok(None),
+        Ok(Some((len, form))) => take_request(alloc, source, held, place, len, form),
     }
 }

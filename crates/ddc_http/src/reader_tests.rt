@@ -1,6 +1,6 @@
 use crate::{Ask, HttpFault, RequestReader};
 use ddc_link::{MemSource, Source};
-use ddc_names::{IoHash, NoMemory, Rows};
+use ddc_names::{IoHash, NoMemory, RefName, Rows};
 use httparse::Status;
 use httparse::spans::{EMPTY_HEADER_SPAN, HeaderSpan, Span, parse_request};
 use io_hash::io_hash_of;
@@ -36,6 +36,9 @@ const GET: u64 = 76;
 enum Seen {
     Put(usize, IoHash),
     Get(IoHash),
+    PutRef(RefName, usize),
+    GetRef(RefName),
+    Finalise(RefName, IoHash),
     Nothing,
     Fault(HttpFault),
     NotCalled,
@@ -51,8 +54,13 @@ fn seen_next<S: Source>(reader: &mut RequestReader<S>) -> Seen {
     }
     match reader.next() {
         Ok(Some(request)) => match request.ask {
-            Ask::PutBlob { space: _, blob } => Seen::Put(blob.bytes().len(), blob.hash()),
+            Ask::PutBlob { space: _, blob } => {
+                Seen::Put(blob.whole().bytes().len(), blob.whole().hash())
+            }
             Ask::GetBlob { space: _, hash } => Seen::Get(hash),
+            Ask::PutRef { name, object } => Seen::PutRef(name, object.whole().bytes().len()),
+            Ask::GetRef { name } => Seen::GetRef(name),
+            Ask::Finalise { name, hash } => Seen::Finalise(name, hash),
         },
         Ok(None) => Seen::Nothing,
         Err(fault) => Seen::Fault(fault),

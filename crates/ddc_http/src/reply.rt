@@ -4,14 +4,16 @@ ghost use Rattle.std.specs.Io.KnownBytes.{Appends, Keeps};
 ghost use Rattle.http.specs.StatusCode.{reason_phrase};
 ghost use Rattle.hex.specs.Hex.{encode_lower};
 ghost use Rattle.json.specs.Print.{escape};
-ghost use Rattle.serde_json.specs.Data.{string, object, member, no_members};
+ghost use Rattle.serde_json.specs.Data.{string, unsigned, number, object, member, no_members};
 ghost use Rattle.serde_json.specs.View.{view};
 ghost use Rattle.ddc_link.specs.Causes.{Rose};
 ghost use Rattle.ddc_link.specs.Writes.{AppendsFront};
-ghost use Rattle.ddc_protocol.specs.Replies.{head_text, hash_line, close_line, opening_text, ending_text, identifier_body, error_body, mismatch_body};
-ghost use Rattle.ddc_http.specs.Heads.{kind_text, text_of, code_text, StatusPhrases};
+ghost use Rattle.ddc_protocol.specs.Replies.{head_text, hash_line, close_line, opening_text, ending_text, identifier_body, error_body, mismatch_body, not_object_body, what_text, full_body, needs_body};
+ghost use Rattle.ddc_http.specs.Heads.{kind_text, text_of, code_text, hash_entry, IsAnswered, fault_text, StatusPhrases};
 
+use crate::request::HttpFault;
 use ddc_link::{Sink, put_all};
+use ddc_model::What;
 use ddc_names::{ByteList, IoHash, NoMemory};
 use http::StatusCode;
 use serde_json::{Value, json};
@@ -24,6 +26,8 @@ pub enum Kind {
     Json,
     /// `application/octet-stream`
     Octets,
+    /// `application/x-ue-cb`, Compact Binary
+    Compact,
 }
 
 /// The head of a reply.
@@ -58,6 +62,10 @@ pub enum ErrorCode {
     NotFound,
     /// `unknown_namespace`
     UnknownNamespace,
+    /// `not_finalised`: the reference has no object that is finalised.
+    NotFinalised,
+    /// `not_pending`: the reference has another object than the one named.
+    NotPending,
 }
 
 impl Kind {
@@ -67,6 +75,7 @@ impl Kind {
         match self {
             Kind::Json => "application/json",
             Kind::Octets => "application/octet-stream",
+            Kind::Compact => "application/x-ue-cb",
         }
     }
 }
@@ -79,6 +88,8 @@ impl ErrorCode {
             ErrorCode::Unread => "unread",
             ErrorCode::NotFound => "not_found",
             ErrorCode::UnknownNamespace => "unknown_namespace",
+            ErrorCode::NotFinalised => "not_finalised",
+            ErrorCode::NotPending => "not_pending",
         }
     }
 }
@@ -181,6 +192,20 @@ fn mismatch_value(alloc: Global, found: &str, named: &str) -> Result<Value, Allo
     json!(in alloc; {"error": "hash_mismatch", "found": found, "named": named})
 }
 
+fn not_object_value(alloc: Global, at: u64) -> Result<Value, AllocError>
+    ensures { IfOk result (λ value. view value ≡ object (member (codes "at") (number (unsigned at))
+        (member (codes "error") (string (codes "not_an_object")) no_members))) }
+{
+    json!(in alloc; {"at": at, "error": "not_an_object"})
+}
+
+fn full_value(alloc: Global, limit: u64, what: &str) -> Result<Value, AllocError>
+    ensures { IfOk result (λ value. view value ≡ object (member (codes "error") (string (codes "full"))
+        (member (codes "limit") (number (unsigned limit)) (member (codes "what") (string what.now) no_members)))) }
+{
+    json!(in alloc; {"error": "full", "limit": limit, "what": what})
+}
+
 // The digits of a hash, which JSON writes as they are.
 fn digits_of(alloc: Global, hash: &[u8]) -> Result<String, AllocError>
     ensures digits { IfOk result (λ text. string_bytes text ≡ encode_lower hash.now) }
@@ -213,6 +238,33 @@ fn mismatch_text(alloc: Global, expected: &IoHash, found: &IoHash) -> Result<Str
     value.to_string(alloc)
 }
 
+fn not_object_text(alloc: Global, at: u64) -> Result<String, AllocError>
+    ensures { IfOk result (λ text. string_bytes text ≡ not_object_body at) }
+{
+    let value = not_object_value(alloc, at)?;
+    value.to_string(alloc)
+}
+
+fn full_text(alloc: Global, what: What, limit: u64) -> Result<String, AllocError>
+    ensures { IfOk result (λ text. string_bytes text ≡ full_body limit (what_text what)) }
+{
+    let value = full_value(alloc, limit, what_text(what))?;
+    value.to_string(alloc)
+}
+
+// The word of what a limit counts.
+fn what_text(what: What) -> &'static str
+    ensures { result.now ≡ what_text what }
+{
+    match what {
+        What::Spaces => "spaces",
+        What::Blobs => "blobs",
+        What::Refs => "refs",
+        What::Links => "links",
+        What::Units => "units",
+    }
+}
+
 /// The body that names the hash of what was stored.
 ///
 /// # Errors
@@ -237,16 +289,71 @@ pub fn error_body(alloc: Global, code: ErrorCode) -> Result<ByteList, NoMemory>
     Ok(ByteList::of_vec(text.into_bytes()))
 }
 
-/// The body for a blob whose bytes have the hash `found`, where the request named `expected`.
+/// The body of the reply to a request that was not answered: one that is not read, one whose body has another hash
+/// than the one named, or one whose body is no object.
 ///
 /// # Errors
 ///
 /// `NoMemory` where there was no memory for it.
-pub fn mismatch_body(alloc: Global, expected: &IoHash, found: &IoHash) -> Result<ByteList, NoMemory>
-    ensures { IfOk result (λ body. body ≡ mismatch_body expected.now found.now) }
+pub fn fault_body(alloc: Global, fault: &HttpFault) -> Result<ByteList, NoMemory>
+    requires { IsAnswered fault.now }
+    ensures { IfOk result (λ body. body ≡ fault_text fault.now) }
 {
-    let text = mismatch_text(alloc, expected, found).map_err(|_| NoMemory)?;
+    let text = match fault {
+        HttpFault::Unread => error_text(alloc, ErrorCode::Unread),
+        HttpFault::HashMismatch { named, found } => mismatch_text(alloc, named, found),
+        HttpFault::NotAnObject { at } => not_object_text(alloc, *at),
+        HttpFault::Cut => unreachable!(),
+        HttpFault::ReadFailed => unreachable!(),
+        HttpFault::NoMemory => unreachable!(),
+    };
+    match text {
+        Ok(text) => Ok(ByteList::of_vec(text.into_bytes())),
+        Err(_) => Err(NoMemory),
+    }
+}
+
+/// The body of the refusal of a change that would pass `limit`, the most of what is counted.
+///
+/// # Errors
+///
+/// `NoMemory` where there was no memory for it.
+pub fn full_body(alloc: Global, what: What, limit: u64) -> Result<ByteList, NoMemory>
+    ensures { IfOk result (λ body. body ≡ full_body limit (what_text what)) }
+{
+    let text = full_text(alloc, what, limit).map_err(|_| NoMemory)?;
     Ok(ByteList::of_vec(text.into_bytes()))
+}
+
+// Writes a hash between quotes, with a comma before it unless it is the first of a list.
+fn push_hash(list: &mut Vec<u8>, hash: &IoHash, is_first: bool) -> Result<(), NoMemory>
+    ensures { OnOk result (list.new.items ≡ list.old.items ++ hash_entry is_first hash.now) }
+{
+    let opening = if is_first {
+        b"\"".as_slice()
+    } else {
+        b",\"".as_slice()
+    };
+    list.extend_from_slice(opening)?;
+    list.extend_from_slice(&hash.text())?;
+    list.push(b'"')?;
+    Ok(())
+}
+
+/// The body that lists the hashes of what is needed, in this order.
+///
+/// # Errors
+///
+/// `NoMemory` where there was no memory for it.
+pub fn needs_body(alloc: Global, hashes: &[IoHash]) -> Result<ByteList, NoMemory>
+    ensures { IfOk result (λ body. body ≡ needs_body hashes.now) }
+{
+    let mut body = Vec::from_slice(alloc, b"{\"needs\":[")?;
+    for (at, hash) in hashes.iter().enumerate() {
+        push_hash(&mut body, hash, at == 0)?;
+    }
+    body.extend_from_slice(b"]}")?;
+    Ok(ByteList::of_vec(body))
 }
 
 /// Each status that the server answers has its phrase of RFC 9110, section 15.

@@ -1,6 +1,6 @@
 use crate::{
-    ErrorCode, Head, Kind, WriteFault, error_body, identifier_body, mismatch_body, status_phrases,
-    write_head,
+    ErrorCode, Head, HttpFault, Kind, WriteFault, error_body, fault_body, full_body,
+    identifier_body, needs_body, status_phrases, write_head,
 };
 use ddc_link::MemSink;
 use ddc_names::{IoHash, Rows};
@@ -94,7 +94,11 @@ fn bodies(rt: HostRuntime) -> Result<(), Fail> {
         identifier.as_slice(),
         b"{\"identifier\":\"af1349b9f5f9a1a6a0404dea36dcc9499bcb25c9\"}".as_slice()
     );
-    let mismatch = mismatch_body(rt.alloc(), &EMPTY, &OTHER).expect(&rt, "memory");
+    let fault = HttpFault::HashMismatch {
+        named: EMPTY,
+        found: OTHER,
+    };
+    let mismatch = fault_body(rt.alloc(), &fault).expect(&rt, "memory");
     assert_eq!(rt;
         mismatch.as_slice(),
         b"{\"error\":\"hash_mismatch\",\"found\":\"0f0f0f0f0f0f0f0f0f0f0f0f0f0f0f0f0f0f0f0f\",\"named\":\"af1349b9f5f9a1a6a0404dea36dcc9499bcb25c9\"}".as_slice()

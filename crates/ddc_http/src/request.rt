@@ -1,14 +1,20 @@
 // Requests, and why one was not read.
-use ddc_names::{IoHash, Namespace};
-use io_hash::Whole;
+use ddc_names::{IoHash, Namespace, RefName};
+use ddc_state::Checked;
 
 /// What a request asks.
 #[derive(Drop)]
 pub enum Ask {
     /// To store a blob, whose bytes have the hash that the request named.
-    PutBlob { space: Namespace, blob: Whole },
+    PutBlob { space: Namespace, blob: Checked },
     /// To fetch the blob with this hash.
     GetBlob { space: Namespace, hash: IoHash },
+    /// To put an object under a reference.
+    PutRef { name: RefName, object: Checked },
+    /// To fetch the object of a reference.
+    GetRef { name: RefName },
+    /// To finalise the object with this hash that was put under a reference.
+    Finalise { name: RefName, hash: IoHash },
 }
 
 /// A request that was read whole.
@@ -26,6 +32,9 @@ pub enum HttpFault {
     Cut,
     /// The body has another hash than the one named. The reader goes on with the next request.
     HashMismatch { named: IoHash, found: IoHash },
+    /// The body is no object, and breaks its rules first at this place in bytes. The reader goes on
+    /// with the next request.
+    NotAnObject { at: u64 },
     /// The source failed.
     ReadFailed,
     /// There was no memory.

@@ -52,8 +52,9 @@ impl<'a, S: Source> RequestReader<'a, S> {
     ///
     /// # Errors
     ///
-    /// `HashMismatch` where the body has another hash than the one named; the reader then goes on
-    /// behind it. Every other fault ends the reader.
+    /// `HashMismatch` where the body has another hash than the one named, and `NotAnObject` where an
+    /// object is put and the body is none; the reader then goes on behind it. Every other fault ends
+    /// the reader.
     pub fn next(&mut self) -> Result<Option<Request>, HttpFault>
         requires { has_ended self.old ≡ false }
         ensures same_reference { self.new.source.ghost_name ≡ self.old.source.ghost_name }
@@ -68,6 +69,7 @@ impl<'a, S: Source> RequestReader<'a, S> {
         self.ended = match &result {
             Ok(Some(_)) => false,
             Err(HttpFault::HashMismatch { .. }) => false,
+            Err(HttpFault::NotAnObject { .. }) => false,
             _ => true,
         };
         result

@@ -19,14 +19,15 @@ pieces-init g c =
     let long : length c.take.new.self.bytes ≡ first = ap length fed ∙ length-take-le first (drop len held) room in
     record {
       taken = taken-first (g.S.Source.left c.args.source.now) held c.drop_front.new.held.items c.take.new.self.bytes len first c.drop_front.ensures fed;
+      limit = ap (λ p. p.limit) c.in-Ok.ensures.taken ∙ ap (λ (p : Taken). p.limit) c.new-intake.ensures;
       counted = omega arith;
       bare = λ more. c.drop_front.ensures ∙ drop_of_length-le held {i = len + first} (omega arith);
       ready = λ whole. (omega arith, refl);
       later = omega arith;
     }
 
-pub returns-in-Err-take-clause-gives : goal.returns-in-Err-take-clause-gives
-returns-in-Err-take-clause-gives g c =
+pub returns-in-Err-clause-gives : goal.returns-in-Err-clause-gives
+returns-in-Err-clause-gives g c =
     let i = c.pieces.invariant in
     let held = c.args.held.now.items in
     let short : length c.pieces.intake.bytes < c.args.size = omega arith in
@@ -34,7 +35,7 @@ returns-in-Err-take-clause-gives g c =
     let before = prepend_known held (g.S.Source.left c.args.source.now) in (
       part,
       consumes-kept before (g.S.Source.left c.pieces.source) (g.S.Source.left c.take-in-pieces.new.self) part
-          (consumes-bare before (g.S.Source.left c.pieces.source) c.drop_front.new.held.items part (i.bare (omega arith)) i.taken) c.in-Err-take.ensures.bytes,
+          (consumes-bare before (g.S.Source.left c.pieces.source) c.drop_front.new.held.items part (i.bare (omega arith)) i.taken) c.in-Err.ensures.bytes,
       no_item-short part c.args.size (lacks held c.pieces.intake.bytes c.args.len c.args.size c.requires.body short),
     )
 
@@ -74,6 +75,7 @@ pieces-preserved g c =
     let P : List ℕ → Type 0 = λ b. Consumes before (prepend_known c.drop_front.new.held.items after) (take c.args.len held ++ b) in
     record {
       taken = subst P (sym fed) (taken-more before (g.S.Source.left c.pieces.source) after c.drop_front.new.held.items (take c.args.len held) c.pieces.intake.bytes piece bare i.taken c.in-Ok-take.ensures.bytes.0);
+      limit = ap (λ p. p.limit) c.in-Ok-take-2.ensures.taken ∙ i.limit;
       counted = omega arith;
       bare = λ more. bare;
       ready = λ whole. let done = i.ready whole in absurd (omega arith);

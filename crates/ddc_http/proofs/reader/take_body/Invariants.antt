@@ -5,6 +5,7 @@ use Rattle.ddc_http.proofs.reader.take_body.Given as goal
 abbrev pub invariant-pieces : goal.invariant-pieces
 invariant-pieces g l = record {
   taken : Consumes (prepend_known l.fn.held.items (g.S.Source.left l.fn.source)) (prepend_known l.held.items (g.S.Source.left l.source)) (take l.len l.fn.held.items ++ l.intake.bytes);
+  limit : l.intake.limit ≡ l.size;
   counted : length l.intake.bytes + l.wanted ≡ l.size;
   bare : 0 < l.wanted → l.held.items ≡ [];
   ready : l.len + l.size ≤ length l.fn.held.items → (l.wanted ≡ 0) × (l.source ≡ l.fn.source);
