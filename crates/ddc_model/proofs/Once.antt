@@ -73,6 +73,7 @@ same_behind x xs ys below above same hash = split (io_hash_cmp hash x) refl wher
   either : (b c d : Bool) → b ≡ false → (b || c) ≡ (b || d) → c ≡ d
   either true c d e f = absurd (cc)
   either false c d e f = f
+
   split : (o : Ordering) → io_hash_cmp hash x ≡ o → has_hash xs hash ≡ has_hash ys hash
   split Less e = either (is_eq (io_hash_cmp hash x)) _ _ (ap is_eq e) (same hash)
   split Greater e = either (is_eq (io_hash_cmp hash x)) _ _ (ap is_eq e) (same hash)
@@ -91,8 +92,8 @@ same_lists (x ∷ xs) (y ∷ ys) s t same = split (io_hash_cmp x y) refl (same_l
   split Equal e rest =
       let first : x ≡ y = io_hash_exact x y e in
       let behind : SameHashes xs ys = same_behind x xs ys (sorted_head io_hash_cmp x xs s)
-          (subst (λ (h : IoHash). AllByRecursion (λ z. io_hash_cmp h z ≡ Less) ys) (sym first) (sorted_head io_hash_cmp y ys t))
-          (subst (λ (h : IoHash). SameHashes (x ∷ xs) (h ∷ ys)) (sym first) same) in
+      (subst (λ (h : IoHash). AllByRecursion (λ z. io_hash_cmp h z ≡ Less) ys) (sym first) (sorted_head io_hash_cmp y ys t))
+      (subst (λ (h : IoHash). SameHashes (x ∷ xs) (h ∷ ys)) (sym first) same) in
       let behind_both : xs ≡ ys = rest behind in
       λ i. first i ∷ behind_both i
 

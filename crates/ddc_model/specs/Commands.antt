@@ -36,6 +36,17 @@ abbrev pub with_room : State → Option Entry → Result (Option Entry) StoreFau
 with_room s (Some entry) = unless (full s entry) (Some entry)
 with_room s None = Ok None
 
+-- the answer of a command that says only that its entry was made
+abbrev pub EntryWhere : Result (Option Entry) StoreFault → Result (Unit {0}) StoreFault → Option Entry → Type 0
+EntryWhere (Ok entry) answer made = (answer ≡ Ok tt) × (made ≡ entry)
+EntryWhere (Err fault) answer made = (answer ≡ Err fault) × (made ≡ None)
+
+-- ---- making a namespace
+
+-- a namespace is made, or its times are set
+abbrev pub SpaceAs : State → List ℕ → ℕ → ℕ → Result (Unit {0}) StoreFault → Option Entry → Type 0
+SpaceAs s space ttl pin answer made = EntryWhere (with_room s (Some (Space space ttl pin))) answer made
+
 -- ---- storing a blob
 
 -- a blob that isn't there is added, and one that was stored or named at an earlier hour is pinned
@@ -47,12 +58,8 @@ abbrev pub upload_entry : State → List ℕ → Content → ℕ → Result (Opt
 upload_entry s space content hour =
     if has_space s space then with_room s (upload_where (blob_at s space (named content.bytes)) space content (hour_of s hour)) else Err UnknownSpace
 
-abbrev pub UploadWhere : Result (Option Entry) StoreFault → Result (Unit {0}) StoreFault → Option Entry → Type 0
-UploadWhere (Ok entry) answer made = (answer ≡ Ok tt) × (made ≡ entry)
-UploadWhere (Err fault) answer made = (answer ≡ Err fault) × (made ≡ None)
-
 abbrev pub UploadAs : State → List ℕ → Content → ℕ → Result (Unit {0}) StoreFault → Option Entry → Type 0
-UploadAs s space content hour answer made = UploadWhere (upload_entry s space content hour) answer made
+UploadAs s space content hour answer made = EntryWhere (upload_entry s space content hour) answer made
 
 -- ---- putting an object under a reference
 
@@ -142,6 +149,11 @@ GetWhere (Ok hash) cache name hour answer made =
 
 abbrev pub GetAs : Cache → RefName → ℕ → Result (IoHash × List ℕ) StoreFault → Option Entry → Type 0
 GetAs cache name hour answer made = GetWhere (object_of cache.index name) cache name hour answer made
+
+-- the same, where the answer is the hash alone
+abbrev pub GetsAs : Cache → RefName → ℕ → Result IoHash StoreFault → Option Entry → Type 0
+GetsAs cache name hour (Ok hash) made = (bytes : List ℕ) × GetAs cache name hour (Ok (hash, bytes)) made
+GetsAs cache name hour (Err fault) made = GetAs cache name hour (Err fault) made
 
 -- the bytes of a blob
 abbrev pub found : {A : Type 0} → Option A → Result A StoreFault

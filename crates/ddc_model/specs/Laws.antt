@@ -1,8 +1,17 @@
 -- What holds of the definitions.
-use Rattle.std.specs.Prelude.{◌≡◌, ℕ, ◌*◌, ◌≤◌, List, length, None}
+use Rattle.std.specs.Prelude.{◌≡◌, ℕ, ◌*◌, ◌≤◌, true, List, [], length, Option, None, Some, Result, ⊤}
 use Rattle.ddc_names.specs.declared.hash.IoHash.{IoHash}
+use Rattle.ddc_names.specs.declared.reference.RefName.{RefName}
+use Rattle.ddc_model.specs.declared.rows.Limits.{Limits}
+use Rattle.ddc_model.specs.declared.entry.Entry.{Entry}
+use Rattle.ddc_model.specs.declared.fault.StoreFault.{StoreFault}
+use Rattle.ddc_model.specs.Limits.{most_bytes}
+use Rattle.ddc_model.specs.State.{State}
+use Rattle.ddc_model.specs.Entries.{legal, is_time}
 use Rattle.ddc_model.specs.Content.{Content, IsContent}
 use Rattle.ddc_model.specs.Closure.{Links, AreNeeds, IsWhole}
+use Rattle.ddc_model.specs.Sound.{Cache, empty_cache, IsSound}
+use Rattle.ddc_model.specs.Commands.{SpaceAs, UploadAs, PutAs, FinaliseAs, GetAs, changed}
 
 -- bytes have one list of links, and are an object or none
 abbrev pub OneContent : Type 0
@@ -19,3 +28,66 @@ OneListOfNeeds = (links : Links) (root : IoHash) (needs others : List IoHash) �
 -- a whole closure stays whole where a blob is added that wasn't there
 abbrev pub WholeStaysWhole : Type 0
 WholeStaysWhole = (links others : Links) (root new : IoHash) → links new ≡ None → ((hash : IoHash) → (hash ≡ new → ⊥) → others hash ≡ links hash) → IsWhole links root → IsWhole others root
+
+-- ---- a sound cache stays sound
+
+-- an empty cache is sound
+abbrev pub EmptyIsSound : Type 0
+EmptyIsSound = (limits : Limits) → IsSound (empty_cache limits)
+
+-- making a namespace keeps a cache sound
+abbrev pub SpaceStaysSound : Type 0
+SpaceStaysSound = (cache : Cache) (space : List ℕ) (ttl pin : ℕ) (answer : Result (Unit {0}) StoreFault) (made : Option Entry)
+    → IsSound cache → SpaceAs cache.index space ttl pin answer made → IsSound (changed cache [] made)
+
+-- so does storing a blob
+abbrev pub UploadStaysSound : Type 0
+UploadStaysSound = (cache : Cache) (space : List ℕ) (content : Content) (hour : ℕ) (answer : Result (Unit {0}) StoreFault) (made : Option Entry)
+    → IsSound cache → IsContent content → UploadAs cache.index space content hour answer made → IsSound (changed cache content.bytes made)
+
+-- so does putting an object under a reference
+abbrev pub PutStaysSound : Type 0
+PutStaysSound = (cache : Cache) (name : RefName) (content : Content) (hour : ℕ) (answer : Result (List IoHash) StoreFault) (made : Option Entry)
+    → IsSound cache → IsContent content → PutAs cache.index name content hour answer made → IsSound (changed cache content.bytes made)
+
+-- so does finalising a reference
+abbrev pub FinaliseStaysSound : Type 0
+FinaliseStaysSound = (cache : Cache) (name : RefName) (hash : IoHash) (hour : ℕ) (answer : Result (List IoHash) StoreFault) (made : Option Entry)
+    → IsSound cache → FinaliseAs cache.index name hash hour answer made → IsSound (changed cache [] made)
+
+-- so does reading a reference
+abbrev pub GetStaysSound : Type 0
+GetStaysSound = (cache : Cache) (name : RefName) (hour : ℕ) (answer : Result (IoHash × List ℕ) StoreFault) (made : Option Entry)
+    → IsSound cache → GetAs cache name hour answer made → IsSound (changed cache [] made)
+
+-- ---- the entries that commands make are legal
+
+-- the entry that is made, where there is one, is legal
+abbrev pub IsLegal : State → Option Entry → Type 0
+IsLegal s (Some entry) = legal s entry ≡ true
+IsLegal s None = ⊤
+
+-- the entry of a namespace is legal, where its times are
+abbrev pub SpaceIsLegal : Type 0
+SpaceIsLegal = (s : State) (space : List ℕ) (ttl pin : ℕ) (answer : Result (Unit {0}) StoreFault) (made : Option Entry)
+    → is_time ttl ≡ true → is_time pin ≡ true → SpaceAs s space ttl pin answer made → IsLegal s made
+
+-- so is that of a blob of so many bytes at most
+abbrev pub UploadIsLegal : Type 0
+UploadIsLegal = (s : State) (space : List ℕ) (content : Content) (hour : ℕ) (answer : Result (Unit {0}) StoreFault) (made : Option Entry)
+    → IsContent content → length content.bytes ≤ most_bytes → UploadAs s space content hour answer made → IsLegal s made
+
+-- and that of an object put under a reference
+abbrev pub PutIsLegal : Type 0
+PutIsLegal = (s : State) (name : RefName) (content : Content) (hour : ℕ) (answer : Result (List IoHash) StoreFault) (made : Option Entry)
+    → IsContent content → length content.bytes ≤ most_bytes → PutAs s name content hour answer made → IsLegal s made
+
+-- and that of a reference that is finalised
+abbrev pub FinaliseIsLegal : Type 0
+FinaliseIsLegal = (s : State) (name : RefName) (hash : IoHash) (hour : ℕ) (answer : Result (List IoHash) StoreFault) (made : Option Entry)
+    → FinaliseAs s name hash hour answer made → IsLegal s made
+
+-- and that of a reference that is read
+abbrev pub GetIsLegal : Type 0
+GetIsLegal = (cache : Cache) (name : RefName) (hour : ℕ) (answer : Result (IoHash × List ℕ) StoreFault) (made : Option Entry)
+    → GetAs cache name hour answer made → IsLegal cache.index made

@@ -52,7 +52,13 @@ pub enum Entry {
         hour: u32,
     },
     /// A reference is taken away.
-    Delete { name: RefName, hour: u32 },
+    Delete {
+        name: RefName,
+        hour: u32,
+    },
     /// A reference was read.
-    Touch { name: RefName, hour: u32 },
+    Touch {
+        name: RefName,
+        hour: u32,
+    },
 }

@@ -1,5 +1,7 @@
 // Laws of the definitions.
 ghost use Rattle.ddc_model.specs.Laws.{OneContent, LinksFit, OneListOfNeeds, WholeStaysWhole};
+ghost use Rattle.ddc_model.specs.Laws.{EmptyIsSound, SpaceStaysSound, UploadStaysSound, PutStaysSound, FinaliseStaysSound, GetStaysSound};
+ghost use Rattle.ddc_model.specs.Laws.{SpaceIsLegal, UploadIsLegal, PutIsLegal, FinaliseIsLegal, GetIsLegal};
 
 /// Bytes have one list of links, and are an object or none.
 pub fn one_content()
@@ -19,4 +21,23 @@ pub fn one_list_of_needs()
 /// An object whose closure is there keeps it, whatever blob is added that wasn't there.
 pub fn whole_stays_whole()
     ensures { WholeStaysWhole }
+{}
+
+/// An empty cache is sound, and each command keeps a sound cache sound.
+pub fn commands_stay_sound()
+    ensures empty { EmptyIsSound }
+    ensures space { SpaceStaysSound }
+    ensures upload { UploadStaysSound }
+    ensures put { PutStaysSound }
+    ensures finalise { FinaliseStaysSound }
+    ensures get { GetStaysSound }
+{}
+
+/// The entry that a command makes is legal in the state before it.
+pub fn entries_are_legal()
+    ensures space { SpaceIsLegal }
+    ensures upload { UploadIsLegal }
+    ensures put { PutIsLegal }
+    ensures finalise { FinaliseIsLegal }
+    ensures get { GetIsLegal }
 {}

@@ -12,5 +12,8 @@ mod rows;
 
 pub use entry::{Entry, Stored};
 pub use fault::{StoreFault, What};
-pub use laws::{links_fit, one_content, one_list_of_needs, whole_stays_whole};
+pub use laws::{
+    commands_stay_sound, entries_are_legal, links_fit, one_content, one_list_of_needs,
+    whole_stays_whole,
+};
 pub use rows::{Blob, BlobName, BlobRow, Extent, Limits, SpaceRow};

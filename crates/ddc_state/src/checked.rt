@@ -59,6 +59,13 @@ impl Checked {
         &self.whole
     }
 
+    /// The bytes and their hash, without the rest.
+    pub fn into_whole(self) -> Whole
+        ensures { result ≡ self.bytes }
+    {
+        self.whole
+    }
+
     /// The links of the object, at every depth, in order of occurrence. Bytes that are no object have none.
     pub fn links(&self) -> &[Link]
         ensures links { result.now ≡ self.now.links }

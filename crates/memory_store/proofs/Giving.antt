@@ -1,0 +1,32 @@
+-- What a command gives that is refused, or makes its entry.
+use Rattle.std.specs.Prelude.{◌≡◌, ℕ, Bool, true, false, List, Option, None, Some, Result, Ok, Err, refl}
+use Rattle.std.proofs.Common.{ap, sym, ◌∙◌, subst}
+use Rattle.ddc_model.specs.declared.entry.Entry.{Entry}
+use Rattle.ddc_model.specs.declared.fault.StoreFault.{StoreFault}
+use Rattle.ddc_model.specs.declared.fault.StoreFault.TheVariants.{UnknownSpace, NotFound, NotFinalised, NotPending, Full, NoMemory}
+use Rattle.ddc_model.specs.State.{State}
+use Rattle.ddc_model.specs.Counts.{full}
+use Rattle.ddc_model.specs.Sound.{Cache}
+use Rattle.memory_store.specs.Views.{Answers}
+use Rattle.ddc_model.specs.Commands.{unless, with_room, EntryWhere, Gives}
+
+-- a command that is refused changes nothing
+pub refused : {A : Type 0} (cache : Cache) (bytes : List ℕ) (Answers : Result A StoreFault → Option Entry → Type 0) (fault : StoreFault) → Answers (Err fault) None → Gives cache bytes cache Answers (Err fault)
+refused cache bytes Answers UnknownSpace h = (None, h, refl)
+refused cache bytes Answers NotFound h = (None, h, refl)
+refused cache bytes Answers NotFinalised h = (None, h, refl)
+refused cache bytes Answers NotPending h = (None, h, refl)
+refused cache bytes Answers (Full what limit) h = (None, h, refl)
+refused cache bytes Answers NoMemory h = refl
+
+-- a command whose entry was made, or not for want of memory
+pub answered : {A : Type 0} (cache : Cache) (bytes : List ℕ) (next : Cache) (Gives_as : Result A StoreFault → Option Entry → Type 0) (entry : Entry) (value : A) (answer : Result A StoreFault)
+    → Answers cache bytes next entry value answer → Gives_as (Ok value) (Some entry) → Gives cache bytes next Gives_as answer
+answered cache bytes next Gives_as entry value (Ok got) (same, is) h = (Some entry, subst (λ v. Gives_as (Ok v) (Some entry)) (sym same) h, is)
+answered cache bytes next Gives_as entry value (Err fault) (same, is) h = subst (λ (f : StoreFault). Gives cache bytes next Gives_as (Err f)) (sym same) is
+
+pub made_where : (s : State) (entry : Entry) → full s entry ≡ None → EntryWhere (with_room s (Some entry)) (Ok tt) (Some entry)
+made_where s entry e = subst (λ (fault : Option StoreFault). EntryWhere (unless fault (Some entry)) (Ok tt) (Some entry)) (sym e) (refl, refl)
+
+pub refused_where : (s : State) (entry : Entry) (fault : StoreFault) → full s entry ≡ Some fault → EntryWhere (with_room s (Some entry)) (Err fault) None
+refused_where s entry fault e = subst (λ (found : Option StoreFault). EntryWhere (unless found (Some entry)) (Err fault) None) (sym e) (refl, refl)

@@ -1,0 +1,4 @@
+pub mod Giving
+pub mod Making
+pub mod Putting
+pub mod Reading
