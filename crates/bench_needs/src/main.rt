@@ -121,9 +121,11 @@ fn run(alloc: Global, space: &Namespace, objects: u64, times: u64) -> Result<(u6
 fn main(rt: HostRuntime) -> io::Result<()> {
     let mut words = env::args(&rt)?;
     let _program = words.next();
-    let (Some(links), Some(times), Ok(space)) =
-        (words.next(), words.next(), Namespace::parse("game"))
-    else {
+    let (Some(links), Some(times), Ok(space)) = (
+        words.next(),
+        words.next(),
+        Namespace::parse("game"),
+    ) else {
         println!(rt; "usage: bench_needs LINKS TIMES")?;
         return Ok(());
     };

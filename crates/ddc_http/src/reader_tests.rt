@@ -1,11 +1,7 @@
 use crate::{Ask, HttpFault, RequestReader};
 use ddc_link::{MemSource, Source};
-use ddc_names::{IoHash, NoMemory, RefName, Rows};
-use httparse::Status;
-use httparse::spans::{EMPTY_HEADER_SPAN, HeaderSpan, Span, parse_request};
-use io_hash::io_hash_of;
+use ddc_names::{IoHash, NoMemory, RefKey, Rows};
 use std::alloc::Global;
-use std::str;
 use std::test::Fail;
 
 // The first 20 bytes of the BLAKE3 hash of nothing, as b3sum prints them.
@@ -36,9 +32,9 @@ const GET: u64 = 76;
 enum Seen {
     Put(usize, IoHash),
     Get(IoHash),
-    PutRef(RefName, usize),
-    GetRef(RefName),
-    Finalise(RefName, IoHash),
+    PutRef(RefKey, usize),
+    GetRef(RefKey),
+    Finalise(RefKey, IoHash),
     Nothing,
     Fault(HttpFault),
     NotCalled,
@@ -58,9 +54,12 @@ fn seen_next<S: Source>(reader: &mut RequestReader<S>) -> Seen {
                 Seen::Put(blob.whole().bytes().len(), blob.whole().hash())
             }
             Ask::GetBlob { space: _, hash } => Seen::Get(hash),
-            Ask::PutRef { name, object } => Seen::PutRef(name, object.whole().bytes().len()),
-            Ask::GetRef { name } => Seen::GetRef(name),
-            Ask::Finalise { name, hash } => Seen::Finalise(name, hash),
+            Ask::PutRef { name, object } => Seen::PutRef(
+                name.spot.key,
+                object.whole().bytes().len(),
+            ),
+            Ask::GetRef { name } => Seen::GetRef(name.spot.key),
+            Ask::Finalise { name, hash } => Seen::Finalise(name.spot.key, hash),
         },
         Ok(None) => Seen::Nothing,
         Err(fault) => Seen::Fault(fault),
@@ -197,6 +196,62 @@ const HOSTILE: [(&str, &str); 24] = [
     ),
 ];
 
+const REF_LINE: &str =
+    "PUT /api/v1/refs/game/maps/2d3adedff11b61f14c886e35afa036736dcd87a7 HTTP/1.1\r\n";
+
+#[test]
+fn requests_of_a_reference_come_one_behind_another(rt: HostRuntime) -> Result<(), Fail> {
+    let mut text = String::new(rt.alloc());
+    text.push_str(REF_LINE)?;
+    text.push_str("Content-Type: application/x-ue-cb\r\nContent-Length: 2\r\n\r\n\x02\0")?;
+    text.push_str(
+        "GET /api/v1/refs/game/maps/2D3ADEDFF11B61F14C886E35AFA036736DCD87A7 HTTP/1.1\r\n\r\n",
+    )?;
+    text.push_str("POST /api/v1/refs/game/maps/2d3adedff11b61f14c886e35afa036736dcd87a7")?;
+    text.push_str("/finalize/af1349b9f5f9a1a6a0404dea36dcc9499bcb25c9 HTTP/1.1\r\n\r\n")?;
+    let key = RefKey(ZERO.0);
+    for size in [1, 8_192] {
+        let [first, second, third] = steps(rt.alloc(), text.as_bytes(), size, &[])?;
+        assert_eq!(rt; first, Step(Seen::PutRef(key, 2), 136), "{size}");
+        assert_eq!(rt; second, Step(Seen::GetRef(key), 216), "{size}");
+        assert_eq!(rt;
+            third,
+            Step(Seen::Finalise(key, EMPTY), text.len() as u64),
+            "{size}"
+        );
+    }
+    Ok(())
+}
+
+#[test]
+fn a_body_that_is_no_object_is_passed_over(rt: HostRuntime) -> Result<(), Fail> {
+    let bodies = [
+        (b"\x02\x05\xaa\xbb\xcc".as_slice(), "5", 0),
+        (b"\x02\x02\x01\0".as_slice(), "4", 3),
+        (b"\x02\0\0".as_slice(), "3", 2),
+        (b"\x04\x01\0".as_slice(), "3", 0),
+        (b"".as_slice(), "0", 0),
+    ];
+    for (body, size, at) in bodies {
+        let mut text = Vec::from_slice(rt.alloc(), REF_LINE.as_bytes())?;
+        text.extend_from_slice(b"Content-Length: ")?;
+        text.extend_from_slice(size.as_bytes())?;
+        text.extend_from_slice(b"\r\n\r\n")?;
+        text.extend_from_slice(body)?;
+        let end = text.len() as u64;
+        text.extend_from_slice(GET_LINE.as_bytes())?;
+        text.extend_from_slice(b"\r\n")?;
+        let [first, second, _] = steps(rt.alloc(), &text, 8_192, &[])?;
+        assert_eq!(rt;
+            first,
+            Step(Seen::Fault(HttpFault::NotAnObject { at }), end),
+            "{size}"
+        );
+        assert_eq!(rt; second, Step(Seen::Get(EMPTY), text.len() as u64), "{size}");
+    }
+    Ok(())
+}
+
 #[test]
 fn other_requests_end_the_reader(rt: HostRuntime) -> Result<(), Fail> {
     for (line, fields) in HOSTILE {
@@ -299,100 +354,5 @@ fn a_failing_source_ends_the_reader(rt: HostRuntime) -> Result<(), Fail> {
     let behind = steps(rt.alloc(), text.as_bytes(), 8_192, &[1])?;
     assert_eq!(rt; behind[1], Step(Seen::Get(EMPTY), PUT + GET));
     assert_eq!(rt; behind[2], Step(failed, PUT + GET));
-    Ok(())
-}
-
-fn part(bytes: &[u8], span: Span) -> &[u8] {
-    bytes.get(span.start..span.end).unwrap_or(&[])
-}
-
-// The length of a body, as the fields state it.
-fn stated(bytes: &[u8], headers: &[HeaderSpan]) -> usize {
-    let mut size = 0usize;
-    for header in headers {
-        if part(bytes, header.name) == b"Content-Length".as_slice() {
-            for digit in part(bytes, header.value) {
-                size = size
-                    .saturating_mul(10)
-                    .saturating_add(digit.wrapping_sub(b'0') as usize);
-            }
-        }
-    }
-    size
-}
-
-// The hash at the end of a path.
-fn named_in(path: &[u8]) -> Option<IoHash> {
-    let digits = path.get(path.len().saturating_sub(40)..)?;
-    IoHash::parse(str::from_utf8(digits).ok()?)
-}
-
-fn asked(method: &[u8], path: &[u8], body: &[u8]) -> Seen {
-    let found = io_hash_of(body);
-    match named_in(path) {
-        None => Seen::Fault(HttpFault::Unread),
-        Some(named) => {
-            if method == b"GET".as_slice() {
-                Seen::Get(named)
-            } else if found == named {
-                Seen::Put(body.len(), found)
-            } else {
-                Seen::Fault(HttpFault::HashMismatch { named, found })
-            }
-        }
-    }
-}
-
-// The request at the front of all the bytes and its length, or the end that stands there.
-fn plain_step(bytes: &[u8]) -> (Seen, usize) {
-    let mut headers = [EMPTY_HEADER_SPAN; 64];
-    match parse_request(bytes, &mut headers) {
-        Ok(Status::Complete(head)) => {
-            let end = head.len.saturating_add(stated(bytes, &headers));
-            match bytes.get(head.len..end) {
-                Some(body) => (
-                    asked(part(bytes, head.method), part(bytes, head.path), body),
-                    end,
-                ),
-                None => (Seen::Fault(HttpFault::Cut), 0),
-            }
-        }
-        Ok(Status::Partial) if bytes.is_empty() => (Seen::Nothing, 0),
-        Ok(Status::Partial) => (Seen::Fault(HttpFault::Cut), 0),
-        Err(_) => (Seen::Fault(HttpFault::Unread), 0),
-    }
-}
-
-// The same three steps, cut from all the bytes.
-fn plain_steps(bytes: &[u8]) -> [Step; 3] {
-    let mut steps = [Step(Seen::NotCalled, 0); 3];
-    let mut at = 0usize;
-    let mut more = true;
-    for step in &mut steps {
-        let (seen, len) = if more {
-            plain_step(bytes.get(at..).unwrap_or(&[]))
-        } else {
-            (Seen::NotCalled, 0)
-        };
-        at = at.saturating_add(len);
-        more = len > 0;
-        *step = Step(seen, at as u64);
-    }
-    steps
-}
-
-#[test]
-fn pieces_are_cut_as_the_whole(rt: HostRuntime) -> Result<(), Fail> {
-    let mut text = put_and_get(rt.alloc())?;
-    text.push_str(PUT_LINE)?;
-    text.push_str("Content-Length: 1\r\n\r\n\0")?;
-    let bytes = text.as_bytes();
-    for len in 0..=bytes.len() {
-        let front = &bytes[..len];
-        for size in [1, 7, 8_192] {
-            let found = steps(rt.alloc(), front, size, &[])?;
-            assert_eq!(rt; found, plain_steps(front), "{len} {size}");
-        }
-    }
     Ok(())
 }

@@ -3,6 +3,7 @@ use crate::{
     identifier_body, needs_body, status_phrases, write_head,
 };
 use ddc_link::MemSink;
+use ddc_model::What;
 use ddc_names::{IoHash, Rows};
 use std::test::Fail;
 
@@ -115,10 +116,90 @@ fn refusals(rt: HostRuntime) -> Result<(), Fail> {
         not_found.as_slice(),
         b"{\"error\":\"not_found\"}".as_slice()
     );
+    let not_finalised = error_body(rt.alloc(), ErrorCode::NotFinalised).expect(&rt, "memory");
+    assert_eq!(rt;
+        not_finalised.as_slice(),
+        b"{\"error\":\"not_finalised\"}".as_slice()
+    );
+    let not_pending = error_body(rt.alloc(), ErrorCode::NotPending).expect(&rt, "memory");
+    assert_eq!(rt;
+        not_pending.as_slice(),
+        b"{\"error\":\"not_pending\"}".as_slice()
+    );
     let unknown = error_body(rt.alloc(), ErrorCode::UnknownNamespace).expect(&rt, "memory");
     assert_eq!(rt;
         unknown.as_slice(),
         b"{\"error\":\"unknown_namespace\"}".as_slice()
     );
+    Ok(())
+}
+
+#[test]
+fn needs(rt: HostRuntime) -> Result<(), Fail> {
+    let none = needs_body(rt.alloc(), &[])?;
+    assert_eq!(rt; none.as_slice(), b"{\"needs\":[]}".as_slice());
+    let one = needs_body(rt.alloc(), &[EMPTY])?;
+    assert_eq!(rt;
+        one.as_slice(),
+        b"{\"needs\":[\"af1349b9f5f9a1a6a0404dea36dcc9499bcb25c9\"]}".as_slice()
+    );
+    let two = needs_body(rt.alloc(), &[OTHER, EMPTY])?;
+    assert_eq!(rt;
+        two.as_slice(),
+        b"{\"needs\":[\"0f0f0f0f0f0f0f0f0f0f0f0f0f0f0f0f0f0f0f0f\",\"af1349b9f5f9a1a6a0404dea36dcc9499bcb25c9\"]}".as_slice()
+    );
+    Ok(())
+}
+
+#[test]
+fn a_place_at_which_a_body_is_no_object(rt: HostRuntime) -> Result<(), Fail> {
+    let first = fault_body(rt.alloc(), &HttpFault::NotAnObject { at: 0 })?;
+    assert_eq!(rt;
+        first.as_slice(),
+        b"{\"at\":0,\"error\":\"not_an_object\"}".as_slice()
+    );
+    let third = fault_body(rt.alloc(), &HttpFault::NotAnObject { at: 3 })?;
+    assert_eq!(rt;
+        third.as_slice(),
+        b"{\"at\":3,\"error\":\"not_an_object\"}".as_slice()
+    );
+    let unread = fault_body(rt.alloc(), &HttpFault::Unread)?;
+    assert_eq!(rt; unread.as_slice(), b"{\"error\":\"unread\"}".as_slice());
+    Ok(())
+}
+
+#[test]
+fn full(rt: HostRuntime) -> Result<(), Fail> {
+    let cases = [
+        (
+            What::Spaces,
+            64,
+            b"{\"error\":\"full\",\"limit\":64,\"what\":\"spaces\"}".as_slice(),
+        ),
+        (
+            What::Blobs,
+            2_097_152,
+            b"{\"error\":\"full\",\"limit\":2097152,\"what\":\"blobs\"}".as_slice(),
+        ),
+        (
+            What::Refs,
+            1_048_576,
+            b"{\"error\":\"full\",\"limit\":1048576,\"what\":\"refs\"}".as_slice(),
+        ),
+        (
+            What::Links,
+            0,
+            b"{\"error\":\"full\",\"limit\":0,\"what\":\"links\"}".as_slice(),
+        ),
+        (
+            What::Units,
+            268_435_456,
+            b"{\"error\":\"full\",\"limit\":268435456,\"what\":\"units\"}".as_slice(),
+        ),
+    ];
+    for (what, limit, wanted) in cases {
+        let body = full_body(rt.alloc(), what, limit)?;
+        assert_eq!(rt; body.as_slice(), wanted);
+    }
     Ok(())
 }

@@ -50,6 +50,28 @@ fn whole_of(alloc: Global, bytes: &[u8]) -> Result<Whole, Fail> {
     Ok(intake.finish())
 }
 
+fn times_of(space: Namespace, ttl: u32, pin: u32) -> Entry {
+    Entry::Space { space, ttl, pin }
+}
+
+fn upload_of(space: Namespace, blob: Stored) -> Entry {
+    Entry::Upload {
+        space,
+        blob,
+        hour: 0,
+    }
+}
+
+fn put_of(name: RefName, root: u8, fresh: Option<Stored>, whole: bool, hour: u32) -> Entry {
+    Entry::Put {
+        name,
+        root: hash_of(root),
+        fresh,
+        whole,
+        hour,
+    }
+}
+
 // Whether the entry fits; then its change is made.
 fn apply(alloc: Global, index: &mut Index, entry: &Entry) -> Result<bool, NoMemory> {
     if !index.fits(entry) {
@@ -147,20 +169,19 @@ fn a_put_leaves_what_is_finalised_until_its_object_is(rt: HostRuntime) -> Result
     let mut index = index_with_blob(rt.alloc())?;
     let space = space_of("game")?;
     let name = name_of("game", 7)?;
-    let put = |root: u8, fresh: Option<Stored>, whole: bool, hour: u32| Entry::Put {
-        name,
-        root: hash_of(root),
-        fresh,
-        whole,
-        hour,
-    };
     let fresh = stored_of(rt.alloc(), 3, 8192, &[link_to(LinkKind::Binary, 9)])?;
     let hash = hash_of(3);
     // each entry, the hour of the index behind it, and the reference
     let steps = [
-        (put(3, Some(fresh), false, 90), 100, None, Some(3), 90),
-        (put(1, None, true, 101), 101, Some(1), None, 101),
-        (put(3, None, false, 95), 101, Some(1), Some(3), 95),
+        (
+            put_of(name, 3, Some(fresh), false, 90),
+            100,
+            None,
+            Some(3),
+            90,
+        ),
+        (put_of(name, 1, None, true, 101), 101, Some(1), None, 101),
+        (put_of(name, 3, None, false, 95), 101, Some(1), Some(3), 95),
         (
             Entry::Finalise {
                 name,
@@ -202,45 +223,37 @@ fn an_entry_that_breaks_a_rule_does_not_fit(rt: HostRuntime) -> Result<(), Fail>
     let space = space_of("game")?;
     let other = space_of("other")?;
     let name = name_of("game", 7)?;
-    let times = |ttl: u32, pin: u32| Entry::Space {
-        space: other,
-        ttl,
-        pin,
-    };
-    let upload = |space: Namespace, blob: Stored| Entry::Upload {
-        space,
-        blob,
-        hour: 0,
-    };
-    let put = |root: u8, fresh: Option<Stored>| Entry::Put {
-        name,
-        root: hash_of(root),
-        fresh,
-        whole: false,
-        hour: 0,
-    };
     let entries = [
-        (times(1, 1_000_000), true),
-        (times(1_000_000, 1), true),
-        (times(0, 1), false),
-        (times(1, 0), false),
-        (times(1_000_001, 1), false),
-        (times(1, 1_000_001), false),
+        (times_of(other, 1, 1_000_000), true),
+        (times_of(other, 1_000_000, 1), true),
+        (times_of(other, 0, 1), false),
+        (times_of(other, 1, 0), false),
+        (times_of(other, 1_000_001, 1), false),
+        (times_of(other, 1, 1_000_001), false),
         (
-            upload(space, stored_of(rt.alloc(), 2, 67_108_864, &[])?),
+            upload_of(space, stored_of(rt.alloc(), 2, 67_108_864, &[])?),
             true,
         ),
         (
-            upload(space, stored_of(rt.alloc(), 2, 67_108_865, &[])?),
+            upload_of(space, stored_of(rt.alloc(), 2, 67_108_865, &[])?),
             false,
         ),
-        (upload(space, stored_of(rt.alloc(), 1, 1, &[])?), false),
-        (upload(other, stored_of(rt.alloc(), 2, 1, &[])?), false),
-        (put(1, None), true),
-        (put(2, None), false),
-        (put(2, Some(stored_of(rt.alloc(), 2, 1, &[])?)), true),
-        (put(2, Some(stored_of(rt.alloc(), 3, 1, &[])?)), false),
-        (put(1, Some(stored_of(rt.alloc(), 1, 1, &[])?)), false),
+        (upload_of(space, stored_of(rt.alloc(), 1, 1, &[])?), false),
+        (upload_of(other, stored_of(rt.alloc(), 2, 1, &[])?), false),
+        (put_of(name, 1, None, false, 0), true),
+        (put_of(name, 2, None, false, 0), false),
+        (
+            put_of(name, 2, Some(stored_of(rt.alloc(), 2, 1, &[])?), false, 0),
+            true,
+        ),
+        (
+            put_of(name, 2, Some(stored_of(rt.alloc(), 3, 1, &[])?), false, 0),
+            false,
+        ),
+        (
+            put_of(name, 1, Some(stored_of(rt.alloc(), 1, 1, &[])?), false, 0),
+            false,
+        ),
         (
             Entry::Repin {
                 space,
@@ -272,7 +285,7 @@ fn an_entry_that_breaks_a_rule_does_not_fit(rt: HostRuntime) -> Result<(), Fail>
         assert_eq!(rt; index.fits(entry), *fits, "of {entry:?}");
     }
     // a reference whose object is pending can be finalised and taken away, and isn't served
-    assert!(rt; apply(rt.alloc(), &mut index, &put(1, None))?);
+    assert!(rt; apply(rt.alloc(), &mut index, &put_of(name, 1, None, false, 0))?);
     let entries = [
         (
             Entry::Finalise {

@@ -1,6 +1,7 @@
 -- What putting an object and finalising a reference give.
 use Rattle.std.specs.Prelude.{◌≡◌, ℕ, Bool, true, false, List, [], ◌∷◌, length, Option, None, Some, is_some, Result, Ok, Err, ◌⊎◌, max, nat_eq, if◌then◌else◌, option_map, cond, refl}
-use Rattle.std.proofs.Common.{ap, sym, ◌∙◌, subst, inl, inr}
+use Rattle.std.proofs.Common.{ap, sym, ◌∙◌, subst, inl, inr, arith}
+use Rattle.std.proofs.lemmas.Bool.Decides.{nat_tests}
 use Rattle.std.specs.FinMap.{get, insert, get-insert}
 use Rattle.std.specs.BTreeMap.{is_at}
 use Rattle.std.specs.Ordering.{is_eq, ordering_reverse, ordering_then}
@@ -24,13 +25,18 @@ use Rattle.ddc_model.specs.Entries.{with_blob, with_pin, with_root, blob_of, pin
 use Rattle.ddc_model.specs.Content.{Content, named}
 use Rattle.ddc_model.specs.Closure.{Links, links_in, with_links, AreNeeds}
 use Rattle.ddc_model.specs.Counts.{added, full}
-use Rattle.ddc_model.specs.Commands.{hour_of, stored, is_empty, fresh_where, fresh_root, with_object, put_entry, put_fault, PutWhere, PutAs, is_done, finalise_entry, FinaliseWhere, FinaliseAs}
+use Rattle.ddc_model.specs.Sound.{Cache}
+use Rattle.ddc_model.specs.Commands.{changed, hour_of, stored, is_empty, fresh_where, fresh_root, with_object, put_entry, put_fault, PutWhere, PutAs, is_done, finalise_entry, FinaliseWhere, FinaliseAs}
 use Rattle.ddc_model.proofs.Sound.{get_here, get_away, same_or_not}
 use Rattle.memory_store.specs.Views.{full_by}
 
 pub no_needs : (needs : List IoHash) → nat_eq (length needs) 0 ≡ is_empty needs
-no_needs [] = refl
-no_needs (x ∷ xs) = refl
+no_needs [] = grind (arith, nat_tests)
+no_needs (x ∷ xs) = grind (arith, nat_tests)
+
+is_none : (needs : List IoHash) → length needs ≡ 0 → is_empty needs ≡ true
+is_none [] e = refl
+is_none (x ∷ xs) e = absurd (omega arith)
 
 -- ---- the links with the object of a put
 
@@ -49,9 +55,9 @@ module _ (s : State) (space : List ℕ) (hash : IoHash) (blob : Blob) where
   added_links other =
       let test : is_eq (blob_cmp (blob_name space other) (blob_name space hash)) ≡ is_at (io_hash_cmp hash) other = ap (λ (o : Ordering). is_eq (ordering_then o (io_hash_cmp other hash))) (same_name space) ∙ (eq_by_cmp_equiv io_hash_total).symm other hash in
       ap links_of (get-insert blob_total s.blobs (blob_name space hash) blob (blob_name space other)) ∙ ap (λ (b : Bool). links_of (cond b (Some blob) (get s.blobs (blob_name space other)))) test ∙ branch (is_at (io_hash_cmp hash) other) where
-    branch : (b : Bool) → links_of (cond b (Some blob) (get s.blobs (blob_name space other))) ≡ (if b then Some blob.links else links_in s space other)
-    branch true = refl
-    branch false = refl
+        branch : (b : Bool) → links_of (cond b (Some blob) (get s.blobs (blob_name space other))) ≡ (if b then Some blob.links else links_in s space other)
+        branch true = refl
+        branch false = refl
 
   same_links : (found : Blob) → get s.blobs (blob_name space hash) ≡ Some found → found.links ≡ blob.links → (other : IoHash) → links_of (get (insert s.blobs (blob_name space hash) blob) (blob_name space other)) ≡ links_in s space other
   same_links found is same other = split (same_or_not blob_total blob_exact (blob_name space other) (blob_name space hash)) where
@@ -116,6 +122,33 @@ module _ (s : State) (name : RefName) (content : Content) (hour : ℕ) where
       → entry ≡ put_entry s name content needs hour
   entry_is entry hash fresh needs e same is = e ∙ (λ i. Put name (same i) (is i) (is_empty needs) (hour_of s hour))
 
+-- what a put of an object that is there gives
+pub known_put : (cache : Cache) (name : RefName) (content : Content) (hour : ℕ) → has_space cache.index name.space ≡ true → has_blob cache.index name.space (named content.bytes) ≡ true
+    → (refs : ℕ) → refs ≡ added (is_some (get cache.index.slots name)) → None ≡ full_by cache.index 0 None refs → (needs : List IoHash) (hash : IoHash) → hash ≡ named content.bytes
+    → AreNeeds (links_in cache.index name.space) hash needs → (entry : Entry) → entry ≡ Put name hash None (is_empty needs) (hour_of cache.index hour) → PutAs cache.index name content hour (Ok needs) (Some entry)
+known_put cache name content hour known there refs more room needs hash same are entry made =
+    let fresh = fresh_known cache.index name content hour there in
+    subst (λ (e : Entry). PutAs cache.index name content hour (Ok needs) (Some e)) (sym (entry_is cache.index name content hour entry hash None needs made same fresh))
+    (put_makes cache.index name content hour known None fresh (ap (full_by cache.index 0 None) (sym more) ∙ sym room) needs
+    (subst (λ (links : Links). AreNeeds links (named content.bytes) needs) (sym (known_links cache.index name content hour there)) (subst (λ (h : IoHash). AreNeeds (links_in cache.index name.space) h needs) same are)))
+
+-- what a put of an object that isn't there gives
+pub new_put : (cache : Cache) (name : RefName) (content : Content) (hour : ℕ) → has_space cache.index name.space ≡ true → blob_at cache.index name.space (named content.bytes) ≡ None
+    → (stored_as : Stored) → stored_as ≡ stored content → (refs : ℕ) → refs ≡ added (is_some (get cache.index.slots name)) → None ≡ full_by cache.index 0 (Some stored_as) refs
+    → (needs : List IoHash) (hash : IoHash) → hash ≡ named content.bytes → (links : List Link) → links ≡ content.links
+    → AreNeeds (with_links (links_in cache.index name.space) hash links) hash needs → (entry : Entry) → entry ≡ Put name hash (Some stored_as) (is_empty needs) (hour_of cache.index hour) → PutAs cache.index name content hour (Ok needs) (Some entry)
+new_put cache name content hour known absent stored_as is refs more room needs hash same links found are entry made =
+    let fresh = ap Some is ∙ fresh_new cache.index name content hour absent in
+    subst (λ (e : Entry). PutAs cache.index name content hour (Ok needs) (Some e)) (sym (entry_is cache.index name content hour entry hash (Some stored_as) needs made same fresh))
+    (put_makes cache.index name content hour known (Some stored_as) fresh (ap (full_by cache.index 0 (Some stored_as)) (sym more) ∙ sym room) needs
+    (subst (λ (l : Links). AreNeeds l (named content.bytes) needs) (sym (new_links cache.index name content hour absent))
+    (subst (λ (l : List Link). AreNeeds (with_links (links_in cache.index name.space) (named content.bytes) l) (named content.bytes) needs) found
+    (subst (λ (h : IoHash). AreNeeds (with_links (links_in cache.index name.space) h links) h needs) same are))))
+
+-- the bytes of the command don't matter to an entry that adds no blob
+pub known_alike : (cache : Cache) (bytes others : List ℕ) (name : RefName) (hash : IoHash) (whole : Bool) (now : ℕ) (entry : Entry) → entry ≡ Put name hash None whole now → changed cache bytes (Some entry) ≡ changed cache others (Some entry)
+known_alike cache bytes others name hash whole now entry is = ap (λ (e : Entry). changed cache bytes (Some e)) is ∙ sym (ap (λ (e : Entry). changed cache others (Some e)) is)
+
 -- ---- finalising
 
 module _ (s : State) (name : RefName) (hash : IoHash) (hour : ℕ) where
@@ -125,13 +158,8 @@ module _ (s : State) (name : RefName) (hash : IoHash) (hour : ℕ) where
   pub finalise_again : is_done s name hash ≡ Ok true → FinaliseAs s name hash hour (Ok []) None
   finalise_again is = subst (λ (known : Result Bool StoreFault). FinaliseWhere known s name hash hour (Ok []) None) (sym is) (refl, refl)
 
-  pub finalise_makes : is_done s name hash ≡ Ok false → (needs : List IoHash) → AreNeeds (links_in s name.space) hash needs → nat_eq (length needs) 0 ≡ true → (now : ℕ) → now ≡ hour_of s hour
+  pub finalise_makes : is_done s name hash ≡ Ok false → (needs : List IoHash) → AreNeeds (links_in s name.space) hash needs → length needs ≡ 0 → (now : ℕ) → now ≡ hour_of s hour
       → FinaliseAs s name hash hour (Ok needs) (Some (Finalise name hash now))
   finalise_makes is needs are none now later =
       subst (λ (known : Result Bool StoreFault). FinaliseWhere known s name hash hour (Ok needs) (Some (Finalise name hash now))) (sym is)
-      (needs, are, refl, (λ i. Some (Finalise name hash (later i))) ∙ sym (λ i. if (sym (no_needs needs) ∙ none) i then Some (Finalise name hash (hour_of s hour)) else None))
-
-  pub finalise_waits : is_done s name hash ≡ Ok false → (needs : List IoHash) → AreNeeds (links_in s name.space) hash needs → nat_eq (length needs) 0 ≡ false → FinaliseAs s name hash hour (Ok needs) None
-  finalise_waits is needs are some =
-      subst (λ (known : Result Bool StoreFault). FinaliseWhere known s name hash hour (Ok needs) None) (sym is)
-      (needs, are, refl, sym (λ i. if (sym (no_needs needs) ∙ some) i then Some (Finalise name hash (hour_of s hour)) else None))
+      (needs, are, refl, (λ i. Some (Finalise name hash (later i))) ∙ sym (λ i. if is_none needs none i then Some (Finalise name hash (hour_of s hour)) else None))

@@ -20,7 +20,7 @@ module _ (cache : Cache) (sound : IsSound cache) (name : RefName) where
   root_bytes : (hash : IoHash) → IsWhole (links_in cache.index name.space) hash → (bytes : List ℕ) × (get cache.bytes (blob_name name.space hash) ≡ Some bytes)
   root_bytes hash whole = by_cases (blob_at cache.index name.space hash) refl where
     by_cases : (found : Option Blob) → blob_at cache.index name.space hash ≡ found → (bytes : List ℕ) × (get cache.bytes (blob_name name.space hash) ≡ Some bytes)
-    by_cases None is = let gone : IsMissing (links_in cache.index name.space) hash hash = (ap (option_map (λ (blob : Blob). blob.links)) is, Object, 0, refl) in absurd (whole hash gone)
+    by_cases None is = let gone : IsMissing (links_in cache.index name.space) hash hash = (ap (option_map (λ (blob : Blob). blob.links)) is, Object, (0, refl)) in absurd (whole hash gone)
     by_cases (Some blob) is = let old = sound.blobs (blob_name name.space hash) blob is in (old.0, old.1)
 
   done_bytes : (hash : IoHash) → object_of cache.index name ≡ Ok hash → (bytes : List ℕ) × (get cache.bytes (blob_name name.space hash) ≡ Some bytes)
@@ -30,12 +30,14 @@ module _ (cache : Cache) (sound : IsSound cache) (name : RefName) where
     by_done slot e (Some found) d f =
         let same : found ≡ hash = ap (λ (r : Result IoHash StoreFault). ok_or_found r found) f in
         root_bytes hash (sound.whole name slot hash e (d ∙ ap Some same)) where
-      ok_or_found : Result IoHash StoreFault → IoHash → IoHash
-      ok_or_found (Ok h) other = h
-      ok_or_found (Err fault) other = other
+          ok_or_found : Result IoHash StoreFault → IoHash → IoHash
+          ok_or_found (Ok h) other = h
+          ok_or_found (Err fault) other = other
+
     by_slot : (slot : Option Slot) → get cache.index.slots name ≡ slot → done_at slot ≡ Ok hash → (bytes : List ℕ) × (get cache.bytes (blob_name name.space hash) ≡ Some bytes)
     by_slot None e f = absurd (cc)
     by_slot (Some slot) e f = by_done slot e slot.done refl f
+
     by_space : (there : Bool) → (if there then done_at (get cache.index.slots name) else Err UnknownSpace) ≡ Ok hash → (bytes : List ℕ) × (get cache.bytes (blob_name name.space hash) ≡ Some bytes)
     by_space true f = by_slot (get cache.index.slots name) refl f
     by_space false f = absurd (cc)

@@ -1,6 +1,6 @@
 //! A cache in memory: its commands, over the index of its namespaces, blobs and references, and the bytes of each
 //! blob. `ddc_model` defines what each command gives.
-// tactic off
+#![tactic(auto)]
 
 mod bytes;
 mod store;

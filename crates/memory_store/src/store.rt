@@ -517,7 +517,8 @@ fn hash_of(blob: &Checked) -> IoHash
 
 // What an entry says of a blob.
 fn stored(alloc: Global, blob: &Checked) -> Result<Stored, NoMemory>
-    ensures { IfOk result (λ fresh. fresh ≡ stored blob.now) }
+    ensures stored { IfOk result (λ fresh. fresh ≡ stored blob.now) }
+    ensures read { IsContent blob.now }
 {
     let links = Vec::from_slice(alloc, blob.links())?;
     Ok(Stored {

@@ -9,20 +9,28 @@ use std::alloc::Global;
 use std::test::Fail;
 
 // Of the byte `a`.
-const LEAF: &str = "17762fddd969a453925d65717ac3eea21320b66b";
+const LEAF: IoHash = IoHash([
+    0x17, 0x76, 0x2f, 0xdd, 0xd9, 0x69, 0xa4, 0x53, 0x92, 0x5d, 0x65, 0x71, 0x7a, 0xc3, 0xee, 0xa2,
+    0x13, 0x20, 0xb6, 0x6b,
+]);
 
 // Of the object that links to the leaf twice, as bytes.
-const TWICE: &str = "9feeeb8e195385c560ac01560dd850904e7e6980";
+const TWICE: IoHash = IoHash([
+    0x9f, 0xee, 0xeb, 0x8e, 0x19, 0x53, 0x85, 0xc5, 0x60, 0xac, 0x01, 0x56, 0x0d, 0xd8, 0x50, 0x90,
+    0x4e, 0x7e, 0x69, 0x80,
+]);
 
 // Of the object that links to the leaf, as bytes.
-const INNER: &str = "8de1d1f7a02e965d9f4cfadd9e2a6ee66690722d";
+const INNER: IoHash = IoHash([
+    0x8d, 0xe1, 0xd1, 0xf7, 0xa0, 0x2e, 0x96, 0x5d, 0x9f, 0x4c, 0xfa, 0xdd, 0x9e, 0x2a, 0x6e, 0xe6,
+    0x66, 0x90, 0x72, 0x2d,
+]);
 
 // Of the object that links to the inner object, as an object.
-const OUTER: &str = "5c672154f3b7dd808b1cc54d6886239ec83e92ab";
-
-fn hash(text: &str) -> Result<IoHash, Fail> {
-    Ok(IoHash::parse(text)?)
-}
+const OUTER: IoHash = IoHash([
+    0x5c, 0x67, 0x21, 0x54, 0xf3, 0xb7, 0xdd, 0x80, 0x8b, 0x1c, 0xc5, 0x4d, 0x68, 0x86, 0x23, 0x9e,
+    0xc8, 0x3e, 0x92, 0xab,
+]);
 
 pub(crate) fn checked(alloc: Global, bytes: &[u8]) -> Result<Checked, Fail> {
     let mut intake = Intake::new(alloc, bytes.len() as u64);
@@ -32,14 +40,85 @@ pub(crate) fn checked(alloc: Global, bytes: &[u8]) -> Result<Checked, Fail> {
 
 // An object of attachments, each a type byte and a hash.
 pub(crate) fn object(alloc: Global, links: &[(u8, IoHash)]) -> Result<Checked, Fail> {
+    let mut fields = Vec::new(alloc);
+    let mut size: u8 = 0;
+    for (kind, hash) in links {
+        fields.push(*kind)?;
+        fields.extend_from_slice(&hash.0)?;
+        size = size.wrapping_add(21);
+    }
     let mut bytes = Vec::new(alloc);
     bytes.push(0x02)?;
-    bytes.push((21 * links.len()) as u8)?;
-    for (kind, hash) in links {
-        bytes.push(*kind)?;
-        bytes.extend_from_slice(&hash.0)?;
-    }
+    bytes.push(size)?;
+    bytes.extend_from_slice(&fields)?;
     checked(alloc, &bytes)
+}
+
+fn upload(
+    alloc: Global,
+    store: &mut Store,
+    space: Namespace,
+    blob: Checked,
+    hour: u32,
+) -> Result<(), StoreFault> {
+    if blob.whole().bytes().len() <= 67_108_864 {
+        store.upload(alloc, space, blob, hour)
+    } else {
+        Err(StoreFault::NotFound)
+    }
+}
+
+fn finalise(
+    alloc: Global,
+    store: &mut Store,
+    name: &RefName,
+    hash: IoHash,
+    hour: u32,
+) -> Result<Rows<IoHash>, StoreFault> {
+    store.finalise(alloc, name, hash, hour)
+}
+
+fn get_ref(
+    alloc: Global,
+    store: &mut Store,
+    name: &RefName,
+    hour: u32,
+) -> Result<IoHash, StoreFault> {
+    store.get_ref(alloc, name, hour)
+}
+
+fn set_space(alloc: Global, store: &mut Store, space: Namespace) -> Result<(), StoreFault> {
+    store.set_space(alloc, space, 24, 4)
+}
+
+fn length_of(store: &Store, space: &Namespace, hash: &IoHash) -> Result<usize, StoreFault> {
+    match store.fetch(space, hash) {
+        Ok(bytes) => Ok(bytes.len()),
+        Err(fault) => Err(fault),
+    }
+}
+
+// The blob's hour, and how many blobs there are.
+fn look(store: &Store, space: &Namespace, hash: &IoHash) -> (Option<u32>, u64) {
+    let hour = match store.index().blob(space, hash) {
+        Some(row) => Some(row.at),
+        None => None,
+    };
+    (hour, store.index().blob_count())
+}
+
+fn put(
+    alloc: Global,
+    store: &mut Store,
+    name: RefName,
+    object: Checked,
+    hour: u32,
+) -> Result<Rows<IoHash>, StoreFault> {
+    if object.is_object() && object.whole().bytes().len() <= 67_108_864 {
+        store.put(alloc, name, object, hour)
+    } else {
+        Err(StoreFault::NotFound)
+    }
 }
 
 fn game() -> Result<Namespace, Fail> {
@@ -56,9 +135,9 @@ pub(crate) fn name_of(space: Namespace, key: u8) -> Result<RefName, Fail> {
     })
 }
 
-fn opened(alloc: Global, limits: Limits) -> Result<Store, Fail> {
-    let mut store = Store::new(alloc, limits);
-    store.set_space(alloc, game()?, 24, 4)?;
+// With the one namespace.
+fn opened(alloc: Global, mut store: Store) -> Result<Store, Fail> {
+    set_space(alloc, &mut store, game()?)?;
     Ok(store)
 }
 
@@ -80,93 +159,165 @@ fn fault_of<T>(answer: &Result<T, StoreFault>) -> Option<StoreFault> {
 fn a_put_lists_what_is_missing_and_is_finalised_once_it_is_there(
     rt: HostRuntime,
 ) -> Result<(), Fail> {
-    let mut store = opened(rt.alloc(), Limits::standard())?;
+    let mut store = opened(rt.alloc(), Store::new(rt.alloc(), Limits::standard()))?;
     let name = name_of(game()?, 1)?;
-    let leaf = hash(LEAF)?;
-    let twice = hash(TWICE)?;
-    let put = store.put(rt.alloc(), name, object(rt.alloc(), &[(0x0f, leaf), (0x0f, leaf)])?, 7);
-    assert!(rt; is_list(&put, &[leaf]));
-    assert_eq!(rt; store.get_ref(rt.alloc(), &name, 7), Err(StoreFault::NotFinalised));
-    assert!(rt; is_list(&store.finalise(rt.alloc(), &name, twice, 7), &[leaf]));
-    store.upload(rt.alloc(), game()?, checked(rt.alloc(), b"a")?, 8)?;
-    assert_eq!(rt; store.get_ref(rt.alloc(), &name, 8), Err(StoreFault::NotFinalised));
-    assert!(rt; is_list(&store.finalise(rt.alloc(), &name, twice, 8), &[]));
-    assert!(rt; is_list(&store.finalise(rt.alloc(), &name, twice, 8), &[]));
-    assert_eq!(rt; store.get_ref(rt.alloc(), &name, 9), Ok(twice));
-    assert_eq!(rt; store.index().hour(), 9);
-    assert_eq!(rt; store.fetch(&game()?, &leaf), Ok(b"a".as_slice()));
-    assert_eq!(rt; store.fetch(&game()?, &twice)?.len(), 44);
+    let first = put(
+        rt.alloc(),
+        &mut store,
+        name,
+        object(rt.alloc(), &[(0x0f, LEAF), (0x0f, LEAF)])?,
+        7,
+    );
+    assert!(rt; is_list(&first, &[LEAF]));
+    assert_eq!(rt;
+        get_ref(rt.alloc(), &mut store, &name, 7),
+        Err(StoreFault::NotFinalised)
+    );
+    assert!(rt; is_list(&finalise(rt.alloc(), &mut store, &name, TWICE, 7), &[LEAF]));
+    upload(
+        rt.alloc(),
+        &mut store,
+        game()?,
+        checked(rt.alloc(), b"a")?,
+        8,
+    )?;
+    assert_eq!(rt;
+        get_ref(rt.alloc(), &mut store, &name, 8),
+        Err(StoreFault::NotFinalised)
+    );
+    assert!(rt; is_list(&finalise(rt.alloc(), &mut store, &name, TWICE, 8), &[]));
+    assert!(rt; is_list(&finalise(rt.alloc(), &mut store, &name, TWICE, 8), &[]));
+    assert_eq!(rt; get_ref(rt.alloc(), &mut store, &name, 9), Ok(TWICE));
+    assert_eq!(rt; length_of(&store, &game()?, &LEAF), Ok(1));
+    assert_eq!(rt; length_of(&store, &game()?, &TWICE), Ok(44));
     Ok(())
 }
 
 #[test]
 fn an_inner_object_is_missing_before_what_it_links_to(rt: HostRuntime) -> Result<(), Fail> {
-    let mut store = opened(rt.alloc(), Limits::standard())?;
+    let mut store = opened(rt.alloc(), Store::new(rt.alloc(), Limits::standard()))?;
     let name = name_of(game()?, 1)?;
-    let leaf = hash(LEAF)?;
-    let inner = hash(INNER)?;
-    let outer = hash(OUTER)?;
-    let put = store.put(rt.alloc(), name, object(rt.alloc(), &[(0x0e, inner)])?, 7);
-    assert!(rt; is_list(&put, &[inner]));
-    store.upload(rt.alloc(), game()?, object(rt.alloc(), &[(0x0f, leaf)])?, 7)?;
-    assert!(rt; is_list(&store.finalise(rt.alloc(), &name, outer, 7), &[leaf]));
-    store.upload(rt.alloc(), game()?, checked(rt.alloc(), b"a")?, 7)?;
-    assert!(rt; is_list(&store.finalise(rt.alloc(), &name, outer, 7), &[]));
-    assert_eq!(rt; store.get_ref(rt.alloc(), &name, 7), Ok(outer));
+    let first = put(
+        rt.alloc(),
+        &mut store,
+        name,
+        object(rt.alloc(), &[(0x0e, INNER)])?,
+        7,
+    );
+    assert!(rt; is_list(&first, &[INNER]));
+    upload(
+        rt.alloc(),
+        &mut store,
+        game()?,
+        object(rt.alloc(), &[(0x0f, LEAF)])?,
+        7,
+    )?;
+    assert!(rt; is_list(&finalise(rt.alloc(), &mut store, &name, OUTER, 7), &[LEAF]));
+    upload(
+        rt.alloc(),
+        &mut store,
+        game()?,
+        checked(rt.alloc(), b"a")?,
+        7,
+    )?;
+    assert!(rt; is_list(&finalise(rt.alloc(), &mut store, &name, OUTER, 7), &[]));
+    assert_eq!(rt; get_ref(rt.alloc(), &mut store, &name, 7), Ok(OUTER));
     Ok(())
 }
 
 #[test]
 fn an_attached_object_that_is_none_needs_nothing_further(rt: HostRuntime) -> Result<(), Fail> {
-    let mut store = opened(rt.alloc(), Limits::standard())?;
+    let mut store = opened(rt.alloc(), Store::new(rt.alloc(), Limits::standard()))?;
     let name = name_of(game()?, 1)?;
-    store.upload(rt.alloc(), game()?, checked(rt.alloc(), b"a")?, 7)?;
-    let put = store.put(rt.alloc(), name, object(rt.alloc(), &[(0x0e, hash(LEAF)?)])?, 7);
-    assert!(rt; is_list(&put, &[]));
-    assert!(rt; store.get_ref(rt.alloc(), &name, 7).is_ok());
+    upload(
+        rt.alloc(),
+        &mut store,
+        game()?,
+        checked(rt.alloc(), b"a")?,
+        7,
+    )?;
+    let first = put(
+        rt.alloc(),
+        &mut store,
+        name,
+        object(rt.alloc(), &[(0x0e, LEAF)])?,
+        7,
+    );
+    assert!(rt; is_list(&first, &[]));
+    assert!(rt; get_ref(rt.alloc(), &mut store, &name, 7).is_ok());
     Ok(())
 }
 
 #[test]
 fn the_old_object_is_served_until_the_new_one_is_final(rt: HostRuntime) -> Result<(), Fail> {
-    let mut store = opened(rt.alloc(), Limits::standard())?;
+    let mut store = opened(rt.alloc(), Store::new(rt.alloc(), Limits::standard()))?;
     let name = name_of(game()?, 1)?;
-    let leaf = hash(LEAF)?;
-    let inner = hash(INNER)?;
     let old = checked(rt.alloc(), b"\x02\x00")?;
     let old_hash = old.whole().hash();
-    assert!(rt; is_list(&store.put(rt.alloc(), name, old, 7), &[]));
-    let put = store.put(rt.alloc(), name, object(rt.alloc(), &[(0x0f, leaf)])?, 7);
-    assert!(rt; is_list(&put, &[leaf]));
-    assert_eq!(rt; store.get_ref(rt.alloc(), &name, 7), Ok(old_hash));
-    store.upload(rt.alloc(), game()?, checked(rt.alloc(), b"a")?, 7)?;
-    assert_eq!(rt; store.get_ref(rt.alloc(), &name, 7), Ok(old_hash));
-    assert!(rt; is_list(&store.finalise(rt.alloc(), &name, inner, 7), &[]));
-    assert_eq!(rt; store.get_ref(rt.alloc(), &name, 7), Ok(inner));
+    assert!(rt; is_list(&put(rt.alloc(), &mut store, name, old, 7), &[]));
+    let first = put(
+        rt.alloc(),
+        &mut store,
+        name,
+        object(rt.alloc(), &[(0x0f, LEAF)])?,
+        7,
+    );
+    assert!(rt; is_list(&first, &[LEAF]));
+    assert_eq!(rt; get_ref(rt.alloc(), &mut store, &name, 7), Ok(old_hash));
+    upload(
+        rt.alloc(),
+        &mut store,
+        game()?,
+        checked(rt.alloc(), b"a")?,
+        7,
+    )?;
+    assert_eq!(rt; get_ref(rt.alloc(), &mut store, &name, 7), Ok(old_hash));
+    assert!(rt; is_list(&finalise(rt.alloc(), &mut store, &name, INNER, 7), &[]));
+    assert_eq!(rt; get_ref(rt.alloc(), &mut store, &name, 7), Ok(INNER));
     Ok(())
 }
 
 #[test]
 fn refusals_say_what_is_not_there(rt: HostRuntime) -> Result<(), Fail> {
-    let mut store = opened(rt.alloc(), Limits::standard())?;
+    let mut store = opened(rt.alloc(), Store::new(rt.alloc(), Limits::standard()))?;
     let other = Namespace::parse("other")?;
     let name = name_of(game()?, 1)?;
     let elsewhere = name_of(other, 1)?;
-    let leaf = hash(LEAF)?;
     let unknown = Some(StoreFault::UnknownSpace);
-    let upload = store.upload(rt.alloc(), other, checked(rt.alloc(), b"a")?, 7);
+    let upload = upload(rt.alloc(), &mut store, other, checked(rt.alloc(), b"a")?, 7);
     assert_eq!(rt; fault_of(&upload), unknown);
-    let put = store.put(rt.alloc(), elsewhere, checked(rt.alloc(), b"\x02\x00")?, 7);
-    assert_eq!(rt; fault_of(&put), unknown);
-    assert_eq!(rt; fault_of(&store.finalise(rt.alloc(), &elsewhere, leaf, 7)), unknown);
-    assert_eq!(rt; fault_of(&store.get_ref(rt.alloc(), &elsewhere, 7)), unknown);
-    assert_eq!(rt; fault_of(&store.fetch(&other, &leaf)), unknown);
+    let first = put(
+        rt.alloc(),
+        &mut store,
+        elsewhere,
+        checked(rt.alloc(), b"\x02\x00")?,
+        7,
+    );
+    assert_eq!(rt; fault_of(&first), unknown);
+    assert_eq!(rt;
+        fault_of(&finalise(rt.alloc(), &mut store, &elsewhere, LEAF, 7)),
+        unknown
+    );
+    assert_eq!(rt;
+        fault_of(&get_ref(rt.alloc(), &mut store, &elsewhere, 7)),
+        unknown
+    );
+    assert_eq!(rt; fault_of(&length_of(&store, &other, &LEAF)), unknown);
     let gone = Some(StoreFault::NotFound);
-    assert_eq!(rt; fault_of(&store.finalise(rt.alloc(), &name, leaf, 7)), gone);
-    assert_eq!(rt; fault_of(&store.get_ref(rt.alloc(), &name, 7)), gone);
-    assert_eq!(rt; fault_of(&store.fetch(&game()?, &leaf)), gone);
-    store.put(rt.alloc(), name, checked(rt.alloc(), b"\x02\x00")?, 7)?;
-    let another = store.finalise(rt.alloc(), &name, leaf, 7);
+    assert_eq!(rt;
+        fault_of(&finalise(rt.alloc(), &mut store, &name, LEAF, 7)),
+        gone
+    );
+    assert_eq!(rt; fault_of(&get_ref(rt.alloc(), &mut store, &name, 7)), gone);
+    assert_eq!(rt; fault_of(&length_of(&store, &game()?, &LEAF)), gone);
+    put(
+        rt.alloc(),
+        &mut store,
+        name,
+        checked(rt.alloc(), b"\x02\x00")?,
+        7,
+    )?;
+    let another = finalise(rt.alloc(), &mut store, &name, LEAF, 7);
     assert_eq!(rt; fault_of(&another), Some(StoreFault::NotPending));
     Ok(())
 }
@@ -180,38 +331,68 @@ fn limits_are_reached_and_not_passed(rt: HostRuntime) -> Result<(), Fail> {
         links: 2,
         ..Limits::standard()
     };
-    let mut store = opened(rt.alloc(), limits)?;
-    let leaf = hash(LEAF)?;
+    let mut store = opened(rt.alloc(), Store::new(rt.alloc(), limits))?;
     let full = |what, limit| Some(StoreFault::Full { what, limit });
-    let second = store.set_space(rt.alloc(), Namespace::parse("other")?, 24, 4);
+    let second = set_space(rt.alloc(), &mut store, Namespace::parse("other")?);
     assert_eq!(rt; fault_of(&second), full(What::Spaces, 1));
-    assert_eq!(rt; store.set_space(rt.alloc(), game()?, 48, 8), Ok(()));
-    let three = object(rt.alloc(), &[(0x0f, leaf), (0x0f, leaf), (0x0f, leaf)])?;
-    assert_eq!(rt; fault_of(&store.upload(rt.alloc(), game()?, three, 7)), full(What::Links, 2));
+    assert_eq!(rt; set_space(rt.alloc(), &mut store, game()?), Ok(()));
+    let three = object(rt.alloc(), &[(0x0f, LEAF), (0x0f, LEAF), (0x0f, LEAF)])?;
+    assert_eq!(rt;
+        fault_of(&upload(rt.alloc(), &mut store, game()?, three, 7)),
+        full(What::Links, 2)
+    );
     let name = name_of(game()?, 1)?;
-    let two = object(rt.alloc(), &[(0x0f, leaf), (0x0f, leaf)])?;
-    assert!(rt; is_list(&store.put(rt.alloc(), name, two, 7), &[leaf]));
-    let again = object(rt.alloc(), &[(0x0f, leaf), (0x0f, leaf)])?;
-    let other = store.put(rt.alloc(), name_of(game()?, 2)?, again, 7);
+    let two = object(rt.alloc(), &[(0x0f, LEAF), (0x0f, LEAF)])?;
+    assert!(rt; is_list(&put(rt.alloc(), &mut store, name, two, 7), &[LEAF]));
+    let again = object(rt.alloc(), &[(0x0f, LEAF), (0x0f, LEAF)])?;
+    let other = put(rt.alloc(), &mut store, name_of(game()?, 2)?, again, 7);
     assert_eq!(rt; fault_of(&other), full(What::Refs, 1));
-    assert_eq!(rt; store.upload(rt.alloc(), game()?, checked(rt.alloc(), b"a")?, 7), Ok(()));
-    let third = store.upload(rt.alloc(), game()?, checked(rt.alloc(), b"b")?, 7);
+    assert_eq!(rt;
+        upload(
+            rt.alloc(),
+            &mut store,
+            game()?,
+            checked(rt.alloc(), b"a")?,
+            7
+        ),
+        Ok(())
+    );
+    let third = upload(
+        rt.alloc(),
+        &mut store,
+        game()?,
+        checked(rt.alloc(), b"b")?,
+        7,
+    );
     assert_eq!(rt; fault_of(&third), full(What::Blobs, 2));
-    assert_eq!(rt; store.index().blob_count(), 2);
+    assert_eq!(rt; look(&store, &game()?, &LEAF), (Some(7), 2));
     Ok(())
 }
 
 #[test]
 fn a_blob_that_is_there_is_pinned_anew(rt: HostRuntime) -> Result<(), Fail> {
-    let mut store = opened(rt.alloc(), Limits::standard())?;
-    store.upload(rt.alloc(), game()?, checked(rt.alloc(), b"a")?, 7)?;
-    store.upload(rt.alloc(), game()?, checked(rt.alloc(), b"a")?, 9)?;
-    store.upload(rt.alloc(), game()?, checked(rt.alloc(), b"a")?, 8)?;
-    let Some(row) = store.index().blob(&game()?, &hash(LEAF)?) else {
-        return Err(Fail);
-    };
-    assert_eq!(rt; row.at, 9);
-    assert_eq!(rt; row.len, 1);
-    assert_eq!(rt; store.index().blob_count(), 1);
+    let mut store = opened(rt.alloc(), Store::new(rt.alloc(), Limits::standard()))?;
+    upload(
+        rt.alloc(),
+        &mut store,
+        game()?,
+        checked(rt.alloc(), b"a")?,
+        7,
+    )?;
+    upload(
+        rt.alloc(),
+        &mut store,
+        game()?,
+        checked(rt.alloc(), b"a")?,
+        9,
+    )?;
+    upload(
+        rt.alloc(),
+        &mut store,
+        game()?,
+        checked(rt.alloc(), b"a")?,
+        8,
+    )?;
+    assert_eq!(rt; look(&store, &game()?, &LEAF), (Some(9), 1));
     Ok(())
 }

@@ -1,8 +1,7 @@
 -- What meeting nodes keeps.
-use Rattle.std.specs.Prelude.{◌≡◌, ℕ, zero, suc, ◌+◌, ◌<◌, ◌≤◌, Bool, true, false, not, cond, List, [], ◌∷◌, ◌++◌, Option, None, Some, is_some, option_map, ◌⊎◌, length, refl, slice_index_or}
+use Rattle.std.specs.Prelude.{◌≡◌, ℕ, ◌+◌, ◌<◌, ◌≤◌, Bool, true, false, not, cond, List, [], ◌∷◌, ◌++◌, Option, None, Some, is_some, option_map, ◌⊎◌, length, refl, slice_index_or}
 use Rattle.std.proofs.Common.{ap, sym, ◌∙◌, subst, inl, inr, arith}
 use Rattle.std.specs.FinMap.{find}
-use Rattle.std.specs.List.{Contains}
 use Rattle.std.specs.BTreeMap.{is_at}
 use Rattle.std.specs.declared.cmp.Ordering.{Ordering}
 use Rattle.std.specs.declared.cmp.Ordering.TheVariants.{Less, Equal, Greater}
@@ -18,8 +17,8 @@ use Rattle.ddc_model.specs.declared.rows.BlobName.{BlobName}
 use Rattle.ddc_model.specs.declared.rows.BlobRow.{BlobRow}
 use Rattle.ddc_model.specs.Keys.{blob_cmp, blob_exact}
 use Rattle.ddc_model.specs.State.{blob_name}
-use Rattle.ddc_model.specs.Closure.{Links, object, IsReached, IsMissing}
-use Rattle.needs_resolver.specs.Walking.{Met, InWork, IsCovered, IsRead, IsKnown, IsWalk, IsMet, AreMet, unmet}
+use Rattle.ddc_model.specs.Closure.{Links, object, IsReached}
+use Rattle.needs_resolver.specs.Walking.{Met, InWork, IsCovered, IsKnown, IsWalk, IsMet, AreMet, unmet}
 use borrow.Author.Count.{below_more}
 
 abbrev Test : Type 0

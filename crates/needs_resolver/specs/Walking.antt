@@ -1,12 +1,12 @@
 -- What a walk over a closure keeps. `base` has the links of each stored blob, and `links` those that the walk goes by.
-use Rattle.std.specs.Prelude.{◌≡◌, ℕ, ◌+◌, ◌<◌, Bool, true, false, not, cond, List, [], ◌∷◌, Option, None, Some, is_some, ◌⊎◌, length, slice_index_or}
+use Rattle.std.specs.Prelude.{◌≡◌, ℕ, ◌+◌, ◌<◌, Bool, true, false, not, cond, List, [], ◌∷◌, None, Some, is_some, ◌⊎◌, length, slice_index_or}
 use Rattle.std.specs.List.{Contains}
 use Rattle.std.specs.FinMap.{entries}
 use Rattle.std.specs.BTreeSet.{contains}
 use Rattle.ddc_names.specs.Orders.{io_hash_cmp}
 use Rattle.ddc_names.specs.declared.hash.IoHash.{IoHash}
 use Rattle.cb_fields.specs.declared.links.Link.{Link}
-use Rattle.cb_fields.specs.declared.links.LinkKind.TheVariants.{Object, Binary}
+use Rattle.cb_fields.specs.declared.links.LinkKind.TheVariants.{Binary}
 use Rattle.ddc_model.specs.declared.rows.Blob.{Blob}
 use Rattle.ddc_model.specs.declared.rows.BlobName.{BlobName}
 use Rattle.ddc_model.specs.State.{State}

@@ -1,4 +1,4 @@
-use Rattle.std.proofs.Common.{◌+◌, ◌≤◌, sym, ap, arith}
+use Rattle.std.proofs.Common.{sym, ap}
 use Rattle.ddc_model.specs.Closure.{links_in, has_hash}
 use Rattle.needs_resolver.specs.Walking.{met_of}
 use Rattle.needs_resolver.proofs.Reading.{no_keys, begins_known, begins_walk, all_read, reads_at_most}

@@ -1,4 +1,4 @@
-use Rattle.std.proofs.Common.{◌≡◌, ◌+◌, ◌≤◌, false, sym, ap, arith}
+use Rattle.std.proofs.Common.{◌≡◌, false, sym, ap}
 use Rattle.std.specs.BTreeMap.{is_at}
 use Rattle.ddc_names.specs.declared.hash.IoHash.{IoHash}
 use Rattle.ddc_names.specs.Orders.{io_hash_cmp}

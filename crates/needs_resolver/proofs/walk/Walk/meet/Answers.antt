@@ -1,4 +1,4 @@
-use Rattle.std.proofs.Common.{◌≡◌, ◌+◌, ◌≤◌, ◌∷◌, [], ◌++◌, List, length, length-append, sym, ◌∙◌, ap, subst, false, is_some, arith}
+use Rattle.std.proofs.Common.{◌≡◌, ◌+◌, ◌≤◌, ◌∷◌, [], List, length, length-append, sym, ◌∙◌, ap, subst, is_some, arith}
 use Rattle.std.specs.FinMap as map
 use Rattle.std.specs.BTreeSet.{contains}
 use Rattle.ddc_names.specs.Orders.{io_hash_cmp}
