@@ -1,6 +1,6 @@
-pub mod Given
 pub mod Writing
 pub mod Answering
+pub mod Turning
 pub mod Bounds
 pub mod Runs
 pub mod Noting

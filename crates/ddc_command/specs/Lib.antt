@@ -1,4 +1,3 @@
-pub mod Tables
 pub mod Replies
 pub mod Writes
 pub mod Session

@@ -1,63 +1,85 @@
 -- What each request is answered, and what it leaves.
-use Rattle.std.specs.Prelude.{ℕ, ◌+◌, Bool, List, [], ◌∷◌, ◌++◌, Option, Some, None, is_some, codes, if◌then◌else◌, ◌==◌}
-use Rattle.std.specs.FinMap as map
+use Rattle.std.specs.Prelude.{◌≡◌, ℕ, ◌+◌, ◌≤◌, ⊤, Bool, true, length, List, [], ◌∷◌, ◌++◌, Option, Some, None, Result, Ok, Err, IfSome, codes, ◌==◌}
 use Rattle.ddc_names.specs.declared.hash.IoHash.{IoHash}
-use Rattle.ddc_names.specs.Orders.{name_cmp}
-use Rattle.ddc_protocol.specs.Replies.{json_reply, blob_reply, identifier_body, error_body, mismatch_body, unread_reply}
-use Rattle.ddc_protocol.specs.Requests.{named, Item, put, get, mismatch, End, closed, cut, unread, spent, most_items}
-use Rattle.ddc_command.specs.declared.plain.Store.{Store}
+use Rattle.ddc_model.specs.declared.entry.Entry.{Entry}
+use Rattle.ddc_model.specs.declared.entry.Entry.TheVariants.{Space}
+use Rattle.ddc_model.specs.declared.fault.StoreFault.{StoreFault}
+use Rattle.ddc_model.specs.Limits.{standard, most_bytes}
+use Rattle.ddc_model.specs.State.{empty_state}
+use Rattle.ddc_model.specs.Content.{Content, named}
+use Rattle.ddc_model.specs.Sound.{Cache, empty_cache}
+use Rattle.ddc_model.specs.Commands.{UploadAs, PutAs, FinaliseAs, GetAs, fetch, changed}
+use Rattle.ddc_protocol.specs.Replies.{json_reply, blob_reply, object_reply, identifier_body, needs_body, fault_reply, mismatch_body, not_object_body, unread_reply}
+use Rattle.ddc_protocol.specs.Requests.{Item, put_blob, get_blob, put_ref, get_ref, finalise, mismatch, not_object, End, closed, cut, unread, spent, most_items}
 
--- the store that a stream finds: the namespace `game`, and no blob
-abbrev pub opened : Store
-opened = record { spaces = map.insert {R = name_cmp} map.empty (codes "game") (record { ttl = 24; pin = 4 }); blobs = map.empty }
+-- what a stream finds: the namespace `game`, and no blob or reference
+abbrev pub opened : Cache
+opened = changed (empty_cache standard) [] (Some (Space (codes "game") 24 4))
 
-abbrev pub has_space : Store → List ℕ → Bool
-has_space store space = is_some (map.get store.spaces space)
+-- the reply to an upload
+abbrev pub upload_reply : Content → Bool → Result (Unit {0}) StoreFault → List ℕ
+upload_reply content close (Ok u) = json_reply 200 (identifier_body (named content.bytes)) close
+upload_reply content close (Err fault) = fault_reply fault close
 
--- the bytes that are stored under a hash
-abbrev pub blob_at : Store → List ℕ → IoHash → Option (List ℕ)
-blob_at store space hash = map.get store.blobs (record { space = space; hash = hash })
+-- to a put, and to the finalising of a reference
+abbrev pub needs_reply : Bool → Result (List IoHash) StoreFault → List ℕ
+needs_reply close (Ok needs) = json_reply 200 (needs_body needs) close
+needs_reply close (Err fault) = fault_reply fault close
 
--- a blob is stored under its own hash, and one that is there stays
-abbrev pub kept : Store → List ℕ → List ℕ → Store
-kept store space bytes =
-    if is_some (blob_at store space (named bytes)) then store
-    else record store { blobs = map.insert store.blobs (record { space = space; hash = named bytes }) bytes }
+-- to the fetching of a reference
+abbrev pub get_reply : Bool → Result (IoHash × List ℕ) StoreFault → List ℕ
+get_reply close (Ok found) = object_reply found.0 found.1 close
+get_reply close (Err fault) = fault_reply fault close
 
--- a refusal with its word
-abbrev pub refusal : ℕ → List ℕ → Bool → List ℕ
-refusal status code close = json_reply status (error_body code) close
+-- and of a blob
+abbrev pub fetch_reply : IoHash → Bool → Result (List ℕ) StoreFault → List ℕ
+fetch_reply hash close (Ok bytes) = blob_reply hash bytes close
+fetch_reply hash close (Err fault) = fault_reply fault close
 
-abbrev pub found_reply : IoHash → Bool → Option (List ℕ) → List ℕ
-found_reply hash close (Some bytes) = blob_reply hash bytes close
-found_reply hash close None = refusal 404 (codes "not_found") close
+-- the text of the reply to an item at this hour, and what is stored afterwards
+abbrev pub Answers : Bool → ℕ → Cache → Item → List ℕ → Cache → Type 0
+Answers close hour cache (put_blob space content) text next =
+    (answer : Result (Unit {0}) StoreFault) × (made : Option Entry) × UploadAs cache.index space content hour answer made × (text ≡ upload_reply content close answer) × (next ≡ changed cache content.bytes made)
+Answers close hour cache (get_blob space hash) text next = (text ≡ fetch_reply hash close (fetch cache space hash)) × (next ≡ cache)
+Answers close hour cache (put_ref name content) text next =
+    (answer : Result (List IoHash) StoreFault) × (made : Option Entry) × PutAs cache.index name content hour answer made × (text ≡ needs_reply close answer) × (next ≡ changed cache content.bytes made)
+Answers close hour cache (get_ref name) text next =
+    (answer : Result (IoHash × List ℕ) StoreFault) × (made : Option Entry) × GetAs cache name hour answer made × (text ≡ get_reply close answer) × (next ≡ changed cache [] made)
+Answers close hour cache (finalise name hash) text next =
+    (answer : Result (List IoHash) StoreFault) × (made : Option Entry) × FinaliseAs cache.index name hash hour answer made × (text ≡ needs_reply close answer) × (next ≡ changed cache [] made)
+Answers close hour cache (mismatch expected found) text next = (text ≡ json_reply 400 (mismatch_body expected found) close) × (next ≡ cache)
+Answers close hour cache (not_object at) text next = (text ≡ json_reply 400 (not_object_body at) close) × (next ≡ cache)
 
--- the text of the reply to an item
-abbrev pub reply : Bool → Store → Item → List ℕ
-reply close store (put space bytes) =
-    if has_space store space then json_reply 200 (identifier_body (named bytes)) close else refusal 404 (codes "unknown_namespace") close
-reply close store (get space hash) =
-    if has_space store space then found_reply hash close (blob_at store space hash) else refusal 404 (codes "unknown_namespace") close
-reply close store (mismatch expected found) = json_reply 400 (mismatch_body expected found) close
+-- what an item stores is within the limits, and what is put under a reference is an object
+abbrev pub Fits : Item → Type 0
+Fits (put_blob space content) = length content.bytes ≤ most_bytes
+Fits (get_blob space hash) = ⊤
+Fits (put_ref name content) = (content.is_object ≡ true) × (length content.bytes ≤ most_bytes)
+Fits (get_ref name) = ⊤
+Fits (finalise name hash) = ⊤
+Fits (mismatch expected found) = ⊤
+Fits (not_object at) = ⊤
 
--- what is stored after an item
-abbrev pub after : Store → Item → Store
-after store (put space bytes) = if has_space store space then kept store space bytes else store
-after store (get space hash) = store
-after store (mismatch expected found) = store
+-- the hour is the clock's, where the clock tells it
+abbrev pub Tells : Option ℕ → ℕ → Type 0
+Tells told hour = IfSome told (λ known. hour ≡ known)
+
+abbrev pub AnswersAt : Option ℕ → Bool → Cache → Item → List ℕ → Cache → Type 0
+AnswersAt told close cache item text next = (hour : ℕ) × Tells told hour × Answers close hour cache item text next
 
 -- the server closes with the last item of a stream that it answers
 abbrev pub closes : ℕ → Bool
 closes count = count + 1 == most_items
 
--- the texts of the replies to items, of which the first has this number, counted from 0
-abbrev pub replies : ℕ → Store → List Item → List ℕ
-replies count store [] = []
-replies count store (item ∷ items) = reply (closes count) store item ++ replies (count + 1) (after store item) items
+-- the texts of the replies to items, of which the first has this number, counted from 0, and what is stored behind them
+abbrev pub Runs : Option ℕ → ℕ → Cache → List Item → List ℕ → Cache → Type 0
+Runs told count cache [] text next = (text ≡ []) × (next ≡ cache)
+Runs told count cache (item ∷ items) text next =
+    (first : List ℕ) × (others : List ℕ) × (between : Cache) × AnswersAt told (closes count) cache item first between × Runs told (count + 1) between items others next × (text ≡ first ++ others)
 
-abbrev pub after_all : Store → List Item → Store
-after_all store [] = store
-after_all store (item ∷ items) = after_all (after store item) items
+-- the text is that of the replies to these items of a stream
+abbrev pub Replies : Option ℕ → Cache → List Item → List ℕ → Type 0
+Replies told cache items text = (next : Cache) × Runs told 0 cache items text next
 
 -- what is written at the end of a stream
 abbrev pub last_text : End → List ℕ

@@ -2,7 +2,8 @@
 #![tactic(auto)]
 
 mod notes;
-mod plain;
+#[cfg(test)]
+mod reference_tests;
 mod reply;
 mod session;
 #[cfg(test)]

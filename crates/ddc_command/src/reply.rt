@@ -1,21 +1,24 @@
 // The replies to requests.
-ghost use Rattle.std.specs.Prelude.{◌≡◌, ◌++◌, IsSome, OnOk};
+ghost use Rattle.std.specs.Prelude.{◌≡◌, ◌++◌, IsSome, false};
 ghost use Rattle.http.specs.StatusCode.{reason_phrase};
-ghost use Rattle.ddc_protocol.specs.Replies.{json_reply, blob_reply, identifier_body, mismatch_body, unread_reply};
-ghost use Rattle.ddc_http.specs.Heads.{text_of, code_text};
+ghost use Rattle.ddc_model.specs.declared.fault.StoreFault.{StoreFault};
+ghost use Rattle.ddc_model.specs.Commands.{fetch};
+ghost use Rattle.ddc_protocol.specs.Replies.{json_reply, blob_reply, object_reply, identifier_body, needs_body, error_body, fault_reply};
+ghost use Rattle.ddc_http.specs.Heads.{text_of, code_text, IsAnswered, fault_text};
 ghost use Rattle.ddc_http.specs.Reader.{asked};
-ghost use Rattle.ddc_protocol.specs.Requests.{put, get};
-ghost use Rattle.ddc_command.specs.Replies.{reply, after, refusal};
-ghost use Rattle.ddc_command.specs.Writes.{WritesAs};
+ghost use Rattle.ddc_protocol.specs.Requests.{put_blob, get_blob, put_ref, get_ref, finalise};
+ghost use Rattle.ddc_command.specs.Replies.{needs_reply, fetch_reply, Fits};
+ghost use Rattle.ddc_command.specs.Writes.{WritesAs, AnsweredAs};
 
-use crate::plain::{BlobName, Store};
 use ddc_http::{
-    Ask, ErrorCode, Head, Kind, Request, WriteFault, error_body, identifier_body, mismatch_body,
-    write_head,
+    Ask, ErrorCode, Head, HttpFault, Kind, Request, WriteFault, error_body, fault_body, full_body,
+    identifier_body, needs_body, write_head,
 };
 use ddc_link::{Sink, put_all};
-use ddc_names::{IoHash, Namespace};
-use io_hash::Whole;
+use ddc_model::{StoreFault, What};
+use ddc_names::{IoHash, Namespace, RefName, Rows};
+use ddc_state::Checked;
+use memory_store::Store;
 use std::alloc::Global;
 
 // Writes a head and its body.
@@ -77,20 +80,23 @@ fn write_blob<W: Sink>(
     write_reply(alloc, sink, &head, bytes)
 }
 
-fn refuse<W: Sink>(
+fn write_object<W: Sink>(
     alloc: Global,
     sink: &mut W,
-    status: u16,
-    code: ErrorCode,
+    hash: IoHash,
+    bytes: &[u8],
     close: bool,
 ) -> Result<(), WriteFault>
-    requires { IsSome (reason_phrase status) }
-    ensures gives { WritesAs (W.written sink.old) (W.written sink.new) (W.faults sink.old) (W.faults sink.new) (refusal status (code_text code) close) result }
+    ensures gives { WritesAs (W.written sink.old) (W.written sink.new) (W.faults sink.old) (W.faults sink.new) (object_reply hash bytes.now close) result }
 {
-    match error_body(alloc, code) {
-        Ok(body) => write_json(alloc, sink, status, body.as_slice(), close),
-        Err(_) => Err(WriteFault::NoMemory),
-    }
+    let head = Head {
+        status: 200,
+        kind: Kind::Compact,
+        hash: Some(hash),
+        length: bytes.len() as u64,
+        close,
+    };
+    write_reply(alloc, sink, &head, bytes)
 }
 
 fn write_identifier<W: Sink>(
@@ -107,83 +113,207 @@ fn write_identifier<W: Sink>(
     }
 }
 
-fn answer_put<W: Sink>(
+fn write_needs<W: Sink>(
+    alloc: Global,
+    sink: &mut W,
+    needs: &[IoHash],
+    close: bool,
+) -> Result<(), WriteFault>
+    ensures gives { WritesAs (W.written sink.old) (W.written sink.new) (W.faults sink.old) (W.faults sink.new) (json_reply 200 (needs_body needs.now) close) result }
+{
+    match needs_body(alloc, needs) {
+        Ok(body) => write_json(alloc, sink, 200, body.as_slice(), close),
+        Err(_) => Err(WriteFault::NoMemory),
+    }
+}
+
+fn refuse<W: Sink>(
+    alloc: Global,
+    sink: &mut W,
+    status: u16,
+    code: ErrorCode,
+    close: bool,
+) -> Result<(), WriteFault>
+    requires { IsSome (reason_phrase status) }
+    ensures gives { WritesAs (W.written sink.old) (W.written sink.new) (W.faults sink.old) (W.faults sink.new) (json_reply status (error_body (code_text code)) close) result }
+{
+    match error_body(alloc, code) {
+        Ok(body) => write_json(alloc, sink, status, body.as_slice(), close),
+        Err(_) => Err(WriteFault::NoMemory),
+    }
+}
+
+fn refuse_full<W: Sink>(
+    alloc: Global,
+    sink: &mut W,
+    what: What,
+    limit: u64,
+    close: bool,
+) -> Result<(), WriteFault>
+    ensures gives { WritesAs (W.written sink.old) (W.written sink.new) (W.faults sink.old) (W.faults sink.new) (fault_reply (StoreFault.Full what limit) close) result }
+{
+    match full_body(alloc, what, limit) {
+        Ok(body) => write_json(alloc, sink, 507, body.as_slice(), close),
+        Err(_) => Err(WriteFault::NoMemory),
+    }
+}
+
+// Answers a command that the store refused. Want of memory gets no reply.
+fn write_refusal<W: Sink>(
+    alloc: Global,
+    sink: &mut W,
+    fault: StoreFault,
+    close: bool,
+) -> Result<(), WriteFault>
+    ensures gives { WritesAs (W.written sink.old) (W.written sink.new) (W.faults sink.old) (W.faults sink.new) (fault_reply fault close) result }
+    ensures memory { fault ≡ StoreFault.NoMemory → result ≡ Err WriteFault.NoMemory }
+{
+    match fault {
+        StoreFault::UnknownSpace => refuse(alloc, sink, 404, ErrorCode::UnknownNamespace, close),
+        StoreFault::NotFound => refuse(alloc, sink, 404, ErrorCode::NotFound, close),
+        StoreFault::NotFinalised => refuse(alloc, sink, 404, ErrorCode::NotFinalised, close),
+        StoreFault::NotPending => refuse(alloc, sink, 409, ErrorCode::NotPending, close),
+        StoreFault::Full { what, limit } => refuse_full(alloc, sink, what, limit, close),
+        StoreFault::NoMemory => Err(WriteFault::NoMemory),
+    }
+}
+
+fn write_listed<W: Sink>(
+    alloc: Global,
+    sink: &mut W,
+    answer: Result<Rows<IoHash>, StoreFault>,
+    close: bool,
+) -> Result<(), WriteFault>
+    ensures gives { WritesAs (W.written sink.old) (W.written sink.new) (W.faults sink.old) (W.faults sink.new) (needs_reply close answer) result }
+    ensures memory { answer ≡ Err StoreFault.NoMemory → result ≡ Err WriteFault.NoMemory }
+{
+    match answer {
+        Ok(needs) => write_needs(alloc, sink, needs.as_slice(), close),
+        Err(fault) => write_refusal(alloc, sink, fault, close),
+    }
+}
+
+fn answer_upload<W: Sink>(
     alloc: Global,
     store: &mut Store,
     space: Namespace,
-    blob: Whole,
+    blob: Checked,
+    hour: u32,
     close: bool,
     sink: &mut W,
 ) -> Result<(), WriteFault>
-    ensures gives { WritesAs (W.written sink.old) (W.written sink.new) (W.faults sink.old) (W.faults sink.new) (reply close store.old (put space blob)) result }
-    ensures state { OnOk result (store.new ≡ after store.old (put space blob)) }
+    requires { Fits (put_blob space blob) }
+    ensures gives { AnsweredAs (W.written sink.old) (W.written sink.new) (W.faults sink.old) (W.faults sink.new) close hour store.old (put_blob space blob) store.new result }
 {
-    if !store.spaces.has(&space) {
-        return refuse(alloc, sink, 404, ErrorCode::UnknownNamespace, close);
-    }
-    let hash = blob.hash();
-    match store.keep(space, blob) {
+    let hash = blob.whole().hash();
+    match store.upload(alloc, space, blob, hour) {
         Ok(()) => write_identifier(alloc, sink, hash, close),
-        Err(_) => Err(WriteFault::NoMemory),
+        Err(fault) => write_refusal(alloc, sink, fault, close),
     }
+}
+
+fn answer_put<W: Sink>(
+    alloc: Global,
+    store: &mut Store,
+    name: RefName,
+    object: Checked,
+    hour: u32,
+    close: bool,
+    sink: &mut W,
+) -> Result<(), WriteFault>
+    requires { Fits (put_ref name object) }
+    ensures gives { AnsweredAs (W.written sink.old) (W.written sink.new) (W.faults sink.old) (W.faults sink.new) close hour store.old (put_ref name object) store.new result }
+{
+    let answer = store.put(alloc, name, object, hour);
+    write_listed(alloc, sink, answer, close)
+}
+
+fn answer_finalise<W: Sink>(
+    alloc: Global,
+    store: &mut Store,
+    name: &RefName,
+    hash: IoHash,
+    hour: u32,
+    close: bool,
+    sink: &mut W,
+) -> Result<(), WriteFault>
+    ensures gives { AnsweredAs (W.written sink.old) (W.written sink.new) (W.faults sink.old) (W.faults sink.new) close hour store.old (finalise name.now hash) store.new result }
+{
+    let answer = store.finalise(alloc, name, hash, hour);
+    write_listed(alloc, sink, answer, close)
 }
 
 fn answer_get<W: Sink>(
     alloc: Global,
+    store: &mut Store,
+    name: &RefName,
+    hour: u32,
+    close: bool,
+    sink: &mut W,
+) -> Result<(), WriteFault>
+    ensures gives { AnsweredAs (W.written sink.old) (W.written sink.new) (W.faults sink.old) (W.faults sink.new) close hour store.old (get_ref name.now) store.new result }
+{
+    match store.get_ref(alloc, name, hour) {
+        Ok(hash) => match store.fetch(&name.space, &hash) {
+            Ok(bytes) => write_object(alloc, sink, hash, bytes, close),
+            Err(_) => unreachable!(),
+        },
+        Err(fault) => write_refusal(alloc, sink, fault, close),
+    }
+}
+
+fn answer_fetch<W: Sink>(
+    alloc: Global,
     store: &Store,
-    space: Namespace,
+    space: &Namespace,
     hash: IoHash,
     close: bool,
     sink: &mut W,
 ) -> Result<(), WriteFault>
-    ensures gives { WritesAs (W.written sink.old) (W.written sink.new) (W.faults sink.old) (W.faults sink.new) (reply close store.now (get space hash)) result }
+    ensures gives { WritesAs (W.written sink.old) (W.written sink.new) (W.faults sink.old) (W.faults sink.new) (fetch_reply hash close (fetch store.now space.now hash)) result }
 {
-    if !store.spaces.has(&space) {
-        return refuse(alloc, sink, 404, ErrorCode::UnknownNamespace, close);
-    }
-    match store.blobs.get(&BlobName { space, hash }) {
-        Some(blob) => write_blob(alloc, sink, hash, blob.bytes(), close),
-        None => refuse(alloc, sink, 404, ErrorCode::NotFound, close),
+    match store.fetch(space, &hash) {
+        Ok(bytes) => write_blob(alloc, sink, hash, bytes, close),
+        Err(fault) => write_refusal(alloc, sink, fault, close),
     }
 }
 
-/// Answers a request: the change is made, and the whole reply written.
+/// Answers a request at this hour: the change is made, and the whole reply written.
 pub fn answer<W: Sink>(
     alloc: Global,
     store: &mut Store,
     request: Request,
+    hour: u32,
     close: bool,
     sink: &mut W,
 ) -> Result<(), WriteFault>
-    ensures gives { WritesAs (W.written sink.old) (W.written sink.new) (W.faults sink.old) (W.faults sink.new) (reply close store.old (asked request)) result }
-    ensures state { OnOk result (store.new ≡ after store.old (asked request)) }
+    requires { Fits (asked request) }
+    ensures gives { AnsweredAs (W.written sink.old) (W.written sink.new) (W.faults sink.old) (W.faults sink.new) close hour store.old (asked request) store.new result }
 {
     let Request { ask } = request;
     match ask {
-        Ask::PutBlob { space, blob } => answer_put(alloc, store, space, blob, close, sink),
-        Ask::GetBlob { space, hash } => answer_get(alloc, store, space, hash, close, sink),
+        Ask::PutBlob { space, blob } => answer_upload(alloc, store, space, blob, hour, close, sink),
+        Ask::GetBlob { space, hash } => answer_fetch(alloc, store, &space, hash, close, sink),
+        Ask::PutRef { name, object } => answer_put(alloc, store, name, object, hour, close, sink),
+        Ask::GetRef { name } => answer_get(alloc, store, &name, hour, close, sink),
+        Ask::Finalise { name, hash } => {
+            answer_finalise(alloc, store, &name, hash, hour, close, sink)
+        }
     }
 }
 
-/// Answers a body that has the hash `found` where the request named `expected`.
-pub fn answer_mismatch<W: Sink>(
+/// Answers a request that was faulty.
+pub fn answer_fault<W: Sink>(
     alloc: Global,
-    expected: IoHash,
-    found: IoHash,
+    fault: &HttpFault,
     close: bool,
     sink: &mut W,
 ) -> Result<(), WriteFault>
-    ensures gives { WritesAs (W.written sink.old) (W.written sink.new) (W.faults sink.old) (W.faults sink.new) (json_reply 400 (mismatch_body expected found) close) result }
+    requires { IsAnswered fault.now }
+    ensures gives { WritesAs (W.written sink.old) (W.written sink.new) (W.faults sink.old) (W.faults sink.new) (json_reply 400 (fault_text fault.now) close) result }
 {
-    match mismatch_body(alloc, &expected, &found) {
+    match fault_body(alloc, fault) {
         Ok(body) => write_json(alloc, sink, 400, body.as_slice(), close),
         Err(_) => Err(WriteFault::NoMemory),
     }
-}
-
-/// Answers a request that isn't read.
-pub fn answer_unread<W: Sink>(alloc: Global, sink: &mut W) -> Result<(), WriteFault>
-    ensures gives { WritesAs (W.written sink.old) (W.written sink.new) (W.faults sink.old) (W.faults sink.new) unread_reply result }
-{
-    refuse(alloc, sink, 400, ErrorCode::Unread, true)
 }

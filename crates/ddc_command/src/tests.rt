@@ -52,17 +52,17 @@ const UNREAD: &[u8] =
 
 // What one run answered, wrote and noted.
 #[derive(Drop)]
-struct Ran {
-    status: u8,
-    written: Vec<u8>,
-    noted: Vec<u8>,
+pub(crate) struct Ran {
+    pub(crate) status: u8,
+    pub(crate) written: Vec<u8>,
+    pub(crate) noted: Vec<u8>,
 }
 
 fn rows_of<T: Copy + Drop>(alloc: Global, items: &[T]) -> Result<Rows<T>, NoMemory> {
     Ok(Rows::of_vec(Vec::from_slice(alloc, items)?))
 }
 
-fn joined(alloc: Global, texts: &[&[u8]]) -> Result<Vec<u8>, AllocError> {
+pub(crate) fn joined(alloc: Global, texts: &[&[u8]]) -> Result<Vec<u8>, AllocError> {
     let mut all = Vec::new(alloc);
     for text in texts {
         all.extend_from_slice(text)?;
@@ -106,7 +106,7 @@ fn run_words(
     })
 }
 
-fn run(
+pub(crate) fn run(
     alloc: Global,
     input: &[u8],
     size: u32,

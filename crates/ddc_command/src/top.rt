@@ -1,5 +1,5 @@
 // The top call.
-ghost use Rattle.std.specs.Prelude.{◌≡◌, ◌↔◌, ◌⊎◌, ℕ, List, codes, false};
+ghost use Rattle.std.specs.Prelude.{◌≡◌, ◌↔◌, ◌⊎◌, ℕ, List, codes, false, IfOk};
 ghost use Rattle.std.specs.Io.KnownBytes.{Keeps, IsAtEnd};
 ghost use Rattle.ddc_link.specs.Causes.{Rose};
 ghost use Rattle.ddc_protocol.specs.Requests.{End, closed};
@@ -8,9 +8,11 @@ ghost use Rattle.ddc_command.specs.Session.{Whole, Front, FirstReplies, RepliesT
 ghost use Rattle.ddc_command.specs.Top.{is_replay, usage_note, bad_note, Noted, IsStatus, IsBad};
 
 use crate::notes::{report, report_usage};
-use crate::plain::Store;
 use crate::session::{Served, run_session};
 use ddc_link::{Clock, Sink, Source};
+use ddc_model::{Limits, StoreFault};
+use ddc_names::Namespace;
+use memory_store::Store;
 use std::alloc::Global;
 
 // Whether the words are the command `replay` and one further word.
@@ -23,14 +25,33 @@ fn is_replay(words: &[String]) -> bool
     }
 }
 
+// The store that a stream finds: the namespace `game`, which keeps references for 24 hours and blobs for 4.
+fn opened_store(alloc: Global) -> Result<Store, StoreFault>
+    ensures { IfOk result (λ store. store ≡ opened) }
+{
+    let mut store = Store::new(alloc, Limits::standard());
+    let Ok(game) = Namespace::parse("game") else {
+        unreachable!()
+    };
+    match store.set_space(alloc, game, 24, 4) {
+        Ok(()) => Ok(store),
+        Err(fault) => Err(fault),
+    }
+}
+
 // Answers a stream from the store that it finds.
-fn replay<S: Source, W: Sink>(alloc: Global, source: &mut S, sink: &mut W) -> Served
-    ensures gives { Serves (S.left source.old) (S.left source.new) (W.written sink.old) (W.written sink.new) opened result }
+fn replay<S: Source, W: Sink, C: Clock>(
+    alloc: Global,
+    source: &mut S,
+    clock: &C,
+    sink: &mut W,
+) -> Served
+    ensures gives { Serves (C.tells clock.now) (S.left source.old) (S.left source.new) (W.written sink.old) (W.written sink.new) opened result }
     ensures read { result ≡ Served.ReadFailed → Rose (S.faults source.old) (S.faults source.new) }
     ensures write { result ≡ Served.WriteFailed → Rose (W.faults sink.old) (W.faults sink.new) }
 {
-    match Store::new(alloc) {
-        Ok(mut store) => run_session(alloc, source, &mut store, sink),
+    match opened_store(alloc) {
+        Ok(mut store) => run_session(alloc, source, &mut store, clock, sink),
         Err(_) => Served::NoMemory,
     }
 }
@@ -38,7 +59,7 @@ fn replay<S: Source, W: Sink>(alloc: Global, source: &mut S, sink: &mut W) -> Se
 /// Does what the words ask for, and gives the exit status. `words` are those behind the program's name.
 ///
 /// `replay DIR` reads requests from `source` and writes the replies to `sink`, from the namespace `game`
-/// and no blob on; DIR is not used yet. What is told of the end goes to `notes`.
+/// and no blob or reference on; DIR is not used yet. What is told of the end goes to `notes`.
 ///
 /// | status | comes |
 /// |---|---|
@@ -60,24 +81,23 @@ pub fn run_local<S: Source, W: Sink, N: Sink, C: Clock>(
     ensures untouched { result ≡ 1 → (source.new ≡ source.old) × (sink.new ≡ sink.old)
         × Noted (N.written notes.old) (N.written notes.new) (N.faults notes.old) (N.faults notes.new) usage_note }
     ensures done { result ≡ 0 → IsAtEnd (S.left source.new) × Keeps (N.written notes.old) (N.written notes.new)
-        × ((at : ℕ) × Whole (S.left source.old) (W.written sink.old) (W.written sink.new) opened at closed) }
+        × ((at : ℕ) × Whole (C.tells clock.now) (S.left source.old) (W.written sink.old) (W.written sink.new) opened at closed) }
     ensures bad { result ≡ 3 → (at : ℕ) × (end : End) × (code : List ℕ) × IsBad end code
-        × Whole (S.left source.old) (W.written sink.old) (W.written sink.new) opened at end
+        × Whole (C.tells clock.now) (S.left source.old) (W.written sink.old) (W.written sink.new) opened at end
         × Noted (N.written notes.old) (N.written notes.new) (N.faults notes.old) (N.faults notes.new) (bad_note at code) }
     ensures failed { result ≡ 4 → (Rose (S.faults source.old) (S.faults source.new)
-        × RepliesToRead (S.left source.old) (S.left source.new) (W.written sink.old) (W.written sink.new) opened
+        × RepliesToRead (C.tells clock.now) (S.left source.old) (S.left source.new) (W.written sink.old) (W.written sink.new) opened
         × Noted (N.written notes.old) (N.written notes.new) (N.faults notes.old) (N.faults notes.new) (codes "ddc: read failed\n"))
         ⊎ (Rose (W.faults sink.old) (W.faults sink.new)
-        × Front (S.left source.old) (W.written sink.old) (W.written sink.new) opened
+        × Front (C.tells clock.now) (S.left source.old) (W.written sink.old) (W.written sink.new) opened
         × Noted (N.written notes.old) (N.written notes.new) (N.faults notes.old) (N.faults notes.new) (codes "ddc: write failed\n")) }
-    ensures memory { result ≡ 6 → FirstReplies (S.left source.old) (W.written sink.old) (W.written sink.new) opened
+    ensures memory { result ≡ 6 → FirstReplies (C.tells clock.now) (S.left source.old) (W.written sink.old) (W.written sink.new) opened
         × Noted (N.written notes.old) (N.written notes.new) (N.faults notes.old) (N.faults notes.new) (codes "ddc: no memory\n") }
 {
-    let _hour = clock.hour();
     if !is_replay(words) {
         report_usage(notes);
         return 1;
     }
-    let served = replay(alloc, source, sink);
+    let served = replay(alloc, source, clock, sink);
     report(notes, served)
 }

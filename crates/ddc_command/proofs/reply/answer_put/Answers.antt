@@ -1,9 +1,8 @@
-use Rattle.std.proofs.Common.{List, ℕ, subst, rules}
-use Rattle.ddc_command.specs.Writes.{WritesAs}
-use Rattle.ddc_command.proofs.Answering.{put_reply}
+use Rattle.ddc_command.proofs.Answering.{put_answered}
 use Rattle.ddc_command.proofs.reply.answer_put.Goals as goal
 
-pub returns-in-Ok-clause-gives : goal.returns-in-Ok-clause-gives
-returns-in-Ok-clause-gives g c =
-    let P : List ℕ → Type 0 = λ text. WritesAs (g.W.Sink.written c.args.sink.now) (g.W.Sink.written c.write_identifier.new.sink) (g.W.Sink.faults c.args.sink.now) (g.W.Sink.faults c.write_identifier.new.sink) text c.write_identifier.result in
-    subst P (put_reply c.args.close c.args.store.now c.args.space c.args.blob c.hash-hash.result (search rules) c.hash-hash.ensures) c.write_identifier.ensures.gives
+pub returns : goal.returns
+returns g c = record {
+  gives = put_answered (g.W.Sink.written c.args.sink.now) (g.W.Sink.written c.write_listed.new.sink) (g.W.Sink.faults c.args.sink.now) (g.W.Sink.faults c.write_listed.new.sink) c.args.close c.args.hour c.args.store.now c.put-answer.new.self c.args.name c.args.object c.put-answer.result c.write_listed.result
+      c.put-answer.ensures c.write_listed.ensures.memory c.write_listed.ensures.gives;
+}

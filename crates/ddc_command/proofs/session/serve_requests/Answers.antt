@@ -9,7 +9,7 @@ use Rattle.ddc_command.proofs.session.serve_requests.Goals as goal
 
 pub returns-in-Ended-clause-gives : goal.returns-in-Ended-clause-gives
 returns-in-Ended-clause-gives g c =
-    ends (g.S.Source.left (source_of c.args.reader.now)) (prepend_known (held_of c.requests.reader) (g.S.Source.left (source_of c.requests.reader)))
+    ends (g.C.Clock.tells c.args.clock.now) (g.S.Source.left (source_of c.args.reader.now)) (prepend_known (held_of c.requests.reader) (g.S.Source.left (source_of c.requests.reader)))
     (prepend_known (held_of c.take_turn.new.reader) (g.S.Source.left (source_of c.take_turn.new.reader))) (g.S.Source.left (source_of c.take_turn.new.reader))
     (g.W.Sink.written c.args.sink.now) (g.W.Sink.written c.requests.sink) (g.W.Sink.written c.take_turn.new.sink)
     c.args.store.now c.requests.store c.take_turn.new.store c.requests.count (place_of c.requests.reader) (place_of c.take_turn.new.reader) (closes c.requests.count) c.in-Ended.served
@@ -17,7 +17,7 @@ returns-in-Ended-clause-gives g c =
 
 pub requests-preserved : goal.requests-preserved
 requests-preserved g c = record {
-  so_far = extends (g.S.Source.left (source_of c.args.reader.now)) (prepend_known (held_of c.requests.reader) (g.S.Source.left (source_of c.requests.reader)))
+  so_far = extends (g.C.Clock.tells c.args.clock.now) (g.S.Source.left (source_of c.args.reader.now)) (prepend_known (held_of c.requests.reader) (g.S.Source.left (source_of c.requests.reader)))
       (prepend_known (held_of c.take_turn.new.reader) (g.S.Source.left (source_of c.take_turn.new.reader))) (g.S.Source.left (source_of c.take_turn.new.reader))
       (g.W.Sink.written c.args.sink.now) (g.W.Sink.written c.requests.sink) (g.W.Sink.written c.take_turn.new.sink)
       c.args.store.now c.requests.store c.take_turn.new.store c.requests.count (place_of c.requests.reader) (place_of c.take_turn.new.reader) (closes c.requests.count)
@@ -31,8 +31,8 @@ requests-preserved g c = record {
 pub returns-clause-gives : goal.returns-clause-gives
 returns-clause-gives g c =
     let last : c.requests.count ≡ 10000 = omega arith in
-    let P : ℕ → Type 0 = λ n. SoFar (g.S.Source.left (source_of c.args.reader.now)) (prepend_known (held_of c.requests.reader) (g.S.Source.left (source_of c.requests.reader))) (g.W.Sink.written c.args.sink.now) (g.W.Sink.written c.requests.sink) c.args.store.now c.requests.store n (place_of c.requests.reader) in
-    let Q : ℕ → Type 0 = λ at. Serves (g.S.Source.left (source_of c.args.reader.now)) (g.S.Source.left (source_of c.requests.reader)) (g.W.Sink.written c.args.sink.now) (g.W.Sink.written c.requests.sink) c.args.store.now (Spent at) in
+    let P : ℕ → Type 0 = λ n. SoFar (g.C.Clock.tells c.args.clock.now) (g.S.Source.left (source_of c.args.reader.now)) (prepend_known (held_of c.requests.reader) (g.S.Source.left (source_of c.requests.reader))) (g.W.Sink.written c.args.sink.now) (g.W.Sink.written c.requests.sink) c.args.store.now c.requests.store n (place_of c.requests.reader) in
+    let Q : ℕ → Type 0 = λ at. Serves (g.C.Clock.tells c.args.clock.now) (g.S.Source.left (source_of c.args.reader.now)) (g.S.Source.left (source_of c.requests.reader)) (g.W.Sink.written c.args.sink.now) (g.W.Sink.written c.requests.sink) c.args.store.now (Spent at) in
     subst Q (sym c.place.ensures)
-    (spends (g.S.Source.left (source_of c.args.reader.now)) (prepend_known (held_of c.requests.reader) (g.S.Source.left (source_of c.requests.reader))) (g.S.Source.left (source_of c.requests.reader))
+    (spends (g.C.Clock.tells c.args.clock.now) (g.S.Source.left (source_of c.args.reader.now)) (prepend_known (held_of c.requests.reader) (g.S.Source.left (source_of c.requests.reader))) (g.S.Source.left (source_of c.requests.reader))
     (g.W.Sink.written c.args.sink.now) (g.W.Sink.written c.requests.sink) c.args.store.now c.requests.store (place_of c.requests.reader) (subst P last c.requests.invariant.so_far))

@@ -1,0 +1,53 @@
+use Rattle.std.proofs.Common.{◌≡◌, ℕ, Option, Ok, Err, refl, sym, subst}
+use Rattle.std.specs.Io.KnownBytes.{prepend_known}
+use Rattle.ddc_http.specs.Stream.{source_of, held_of, place_of}
+use Rattle.ddc_http.specs.Reader.{asked, Answers}
+use Rattle.ddc_http.specs.declared.request.Request.{Request}
+use Rattle.ddc_http.specs.declared.request.HttpFault.{HttpFault}
+use Rattle.ddc_command.specs.declared.session.Turn.{Turn}
+use Rattle.ddc_command.specs.Session.{TurnAs}
+use Rattle.ddc_protocol.specs.Replies.{json_reply, mismatch_body, not_object_body}
+use Rattle.ddc_protocol.specs.Requests.{mismatch, not_object}
+use Rattle.ddc_command.proofs.Bounds.{fits}
+use Rattle.ddc_command.proofs.Turning.{turn_answered, turn_refused}
+use Rattle.ddc_command.proofs.session.take_turn.Goals as goal
+
+pub answer-requires : goal.answer-requires
+answer-requires g c =
+    let P : Option Request → Type 0 = λ request. Answers (prepend_known (held_of c.args.reader.now) (g.S.Source.left (source_of c.args.reader.now))) (prepend_known (held_of c.next.new.self) (g.S.Source.left (source_of c.next.new.self)))
+    (g.S.Source.left (source_of c.next.new.self)) (place_of c.args.reader.now) (place_of c.next.new.self) (Ok request) in
+    let taken = subst P c.in-Ok-Some.field-0-is c.in-Ok-Some.ensures.gives in
+    fits taken.0 (asked c.in-Ok-Some.request) taken.1
+
+pub returns-in-Ok-Some-clause-gives : goal.returns-in-Ok-Some-clause-gives
+returns-in-Ok-Some-clause-gives g c =
+    let P : Turn → Type 0 = λ turn. TurnAs (g.C.Clock.tells c.args.clock.now) (prepend_known (held_of c.args.reader.now) (g.S.Source.left (source_of c.args.reader.now))) (prepend_known (held_of c.next.new.self) (g.S.Source.left (source_of c.next.new.self)))
+    (g.S.Source.left (source_of c.next.new.self)) (place_of c.args.reader.now) (place_of c.next.new.self) c.args.close (g.W.Sink.written c.args.sink.now) (g.W.Sink.written c.answer.new.sink) c.args.store.now c.answer.new.store turn in
+    let A : Option Request → Type 0 = λ request. Answers (prepend_known (held_of c.args.reader.now) (g.S.Source.left (source_of c.args.reader.now))) (prepend_known (held_of c.next.new.self) (g.S.Source.left (source_of c.next.new.self)))
+    (g.S.Source.left (source_of c.next.new.self)) (place_of c.args.reader.now) (place_of c.next.new.self) (Ok request) in
+    subst P (sym c.turned.ensures)
+    (turn_answered (g.C.Clock.tells c.args.clock.now) (prepend_known (held_of c.args.reader.now) (g.S.Source.left (source_of c.args.reader.now))) (prepend_known (held_of c.next.new.self) (g.S.Source.left (source_of c.next.new.self)))
+    (g.S.Source.left (source_of c.next.new.self)) (place_of c.args.reader.now) (place_of c.next.new.self) c.args.close (g.W.Sink.written c.args.sink.now) (g.W.Sink.written c.answer.new.sink) (g.W.Sink.faults c.args.sink.now) (g.W.Sink.faults c.answer.new.sink)
+    c.args.store.now c.answer.new.store (asked c.in-Ok-Some.request) c.hour.result c.answer.result c.hour.ensures (subst A c.in-Ok-Some.field-0-is c.in-Ok-Some.ensures.gives) c.answer.ensures.gives)
+
+pub returns-in-Err-HashMismatch-clause-gives : goal.returns-in-Err-HashMismatch-clause-gives
+returns-in-Err-HashMismatch-clause-gives g c =
+    let A : HttpFault → Type 0 = λ fault. Answers (prepend_known (held_of c.args.reader.now) (g.S.Source.left (source_of c.args.reader.now))) (prepend_known (held_of c.next.new.self) (g.S.Source.left (source_of c.next.new.self)))
+    (g.S.Source.left (source_of c.next.new.self)) (place_of c.args.reader.now) (place_of c.next.new.self) (Err fault) in
+    let P : Turn → Type 0 = λ turn. TurnAs (g.C.Clock.tells c.args.clock.now) (prepend_known (held_of c.args.reader.now) (g.S.Source.left (source_of c.args.reader.now))) (prepend_known (held_of c.next.new.self) (g.S.Source.left (source_of c.next.new.self)))
+    (g.S.Source.left (source_of c.next.new.self)) (place_of c.args.reader.now) (place_of c.next.new.self) c.args.close (g.W.Sink.written c.args.sink.now) (g.W.Sink.written c.answer_fault-in-Err-HashMismatch.new.sink) c.args.store.now c.args.store.now turn in
+    subst P (sym c.turned-in-Err-HashMismatch.ensures)
+    (turn_refused (g.C.Clock.tells c.args.clock.now) (prepend_known (held_of c.args.reader.now) (g.S.Source.left (source_of c.args.reader.now))) (prepend_known (held_of c.next.new.self) (g.S.Source.left (source_of c.next.new.self)))
+    (g.S.Source.left (source_of c.next.new.self)) (place_of c.args.reader.now) (place_of c.next.new.self) c.args.close (g.W.Sink.written c.args.sink.now) (g.W.Sink.written c.answer_fault-in-Err-HashMismatch.new.sink) (g.W.Sink.faults c.args.sink.now) (g.W.Sink.faults c.answer_fault-in-Err-HashMismatch.new.sink)
+    c.args.store.now (mismatch c.in-Err-HashMismatch.named c.in-Err-HashMismatch.found) (json_reply 400 (mismatch_body c.in-Err-HashMismatch.named c.in-Err-HashMismatch.found) c.args.close) c.answer_fault-in-Err-HashMismatch.result (λ hour. (refl, refl)) (subst A c.in-Err-HashMismatch.field-0-is c.in-Err-HashMismatch.ensures.gives) c.answer_fault-in-Err-HashMismatch.ensures.gives)
+
+pub returns-in-Err-NotAnObject-clause-gives : goal.returns-in-Err-NotAnObject-clause-gives
+returns-in-Err-NotAnObject-clause-gives g c =
+    let A : HttpFault → Type 0 = λ fault. Answers (prepend_known (held_of c.args.reader.now) (g.S.Source.left (source_of c.args.reader.now))) (prepend_known (held_of c.next.new.self) (g.S.Source.left (source_of c.next.new.self)))
+    (g.S.Source.left (source_of c.next.new.self)) (place_of c.args.reader.now) (place_of c.next.new.self) (Err fault) in
+    let P : Turn → Type 0 = λ turn. TurnAs (g.C.Clock.tells c.args.clock.now) (prepend_known (held_of c.args.reader.now) (g.S.Source.left (source_of c.args.reader.now))) (prepend_known (held_of c.next.new.self) (g.S.Source.left (source_of c.next.new.self)))
+    (g.S.Source.left (source_of c.next.new.self)) (place_of c.args.reader.now) (place_of c.next.new.self) c.args.close (g.W.Sink.written c.args.sink.now) (g.W.Sink.written c.answer_fault-in-Err-NotAnObject.new.sink) c.args.store.now c.args.store.now turn in
+    subst P (sym c.turned-in-Err-NotAnObject.ensures)
+    (turn_refused (g.C.Clock.tells c.args.clock.now) (prepend_known (held_of c.args.reader.now) (g.S.Source.left (source_of c.args.reader.now))) (prepend_known (held_of c.next.new.self) (g.S.Source.left (source_of c.next.new.self)))
+    (g.S.Source.left (source_of c.next.new.self)) (place_of c.args.reader.now) (place_of c.next.new.self) c.args.close (g.W.Sink.written c.args.sink.now) (g.W.Sink.written c.answer_fault-in-Err-NotAnObject.new.sink) (g.W.Sink.faults c.args.sink.now) (g.W.Sink.faults c.answer_fault-in-Err-NotAnObject.new.sink)
+    c.args.store.now (not_object c.in-Err-NotAnObject.at) (json_reply 400 (not_object_body c.in-Err-NotAnObject.at) c.args.close) c.answer_fault-in-Err-NotAnObject.result (λ hour. (refl, refl)) (subst A c.in-Err-NotAnObject.field-0-is c.in-Err-NotAnObject.ensures.gives) c.answer_fault-in-Err-NotAnObject.ensures.gives)
