@@ -1,0 +1,4 @@
+pub mod Readers
+pub mod Fields
+pub mod Entries
+pub mod Links

@@ -1,0 +1,107 @@
+-- Readers undo spellings, and so do those that are put together of them.
+use Rattle.std.proofs.Common.{◌≡◌, ℕ, suc, ◌<◌, Bool, true, false, cond, eqb, ◌⊎◌, List, [], ◌∷◌, ◌++◌, Option, Some, None, refl, sym, ap, subst, ◌∙◌, append_assoc, inl, inr}
+use Rattle.std.specs.Prelude.{slice_index}
+use Rattle.std.proofs.lemmas.Bool.{eqb-true}
+use Rattle.std.proofs.lemmas.Option.{same_Some}
+use Rattle.ddc_entry.specs.Reading.{Reader, ◌>>=◌, both, made, tagged, nothing, given}
+
+abbrev pub IsBytes : List ℕ → Type 0
+IsBytes bytes = (i : ℕ) → slice_index bytes i < 256
+
+-- what a reader takes is spelled at the front, and fits
+abbrev pub Takes : {A : Type 0} → Reader A → (A → List ℕ) → (A → Type 0) → Type 0
+Takes {A} read spelled Fits = (bytes : List ℕ) (a : A) (rest : List ℕ) → IsBytes bytes → read bytes ≡ Some (a, rest) → (bytes ≡ spelled a ++ rest) × Fits a
+
+-- the same behind a tag
+abbrev pub TakesBehind : {A : Type 0} → ℕ → Reader A → (A → List ℕ) → (A → Type 0) → Type 0
+TakesBehind {A} tag read spelled Fits = (bytes : List ℕ) (a : A) (rest : List ℕ) → IsBytes bytes → read bytes ≡ Some (a, rest) → (tag ∷ bytes ≡ spelled a ++ rest) × Fits a
+
+-- what fits and is spelled at the front is taken, whatever follows
+abbrev pub Again : {A : Type 0} → Reader A → (A → List ℕ) → (A → Type 0) → Type 0
+Again {A} read spelled Fits = (a : A) (rest : List ℕ) → Fits a → read (spelled a ++ rest) ≡ Some (a, rest)
+
+pub record Undoes {A : Type 0} (read : Reader A) (spelled : A → List ℕ) (Fits : A → Type 0) : Type 0 where
+  pub takes : Takes read spelled Fits
+  pub again : Again read spelled Fits
+
+-- the value of a step that was made
+pub bind_some : {A B : Type 0} (r : Option A) (f : A → Option B) (y : B) → (r >>= f) ≡ Some y → (x : A) × (r ≡ Some x) × (f x ≡ Some y)
+bind_some (Some x) f y e = (x, refl, e)
+bind_some None f y e = absurd cc
+
+pub back_bytes : (front rest : List ℕ) → IsBytes (front ++ rest) → IsBytes rest
+back_bytes [] rest small = small
+back_bytes (b ∷ front) rest small = back_bytes front rest (λ i. small (suc i))
+
+pub both_undo : {A B : Type 0} (first : Reader A) (second : Reader B) (p : A → List ℕ) (q : B → List ℕ) (P : A → Type 0) (Q : B → Type 0)
+    → Undoes first p P → Undoes second q Q → Undoes (both first second) (λ x. p x.0 ++ q x.1) (λ x. P x.0 × Q x.1)
+both_undo {A} {B} first second p q P Q u v = record {
+  takes = λ bytes x rest small e.
+      let a = bind_some (first bytes) (λ a. second a.1 >>= λ b. Some ((a.0, b.0), b.1)) (x, rest) e in
+      let b = bind_some (second a.0.1) (λ b. Some ((a.0.0, b.0), b.1)) (x, rest) a.2 in
+      let front = u.takes bytes a.0.0 a.0.1 small a.1 in
+      let behind : IsBytes (p a.0.0 ++ a.0.1) = subst (λ (t : List ℕ). IsBytes t) front.0 small in
+      let later = v.takes a.0.1 b.0.0 b.0.1 (back_bytes (p a.0.0) a.0.1 behind) b.1 in
+      let cut : bytes ≡ (p a.0.0 ++ q b.0.0) ++ b.0.1 = front.0 ∙ ap (λ (t : List ℕ). p a.0.0 ++ t) later.0 ∙ sym (append_assoc (p a.0.0) (q b.0.0) b.0.1) in
+      subst (λ (y : (A × B) × List ℕ). (bytes ≡ (p y.0.0 ++ q y.0.1) ++ y.1) × (P y.0.0 × Q y.0.1)) (same_Some ((a.0.0, b.0.0), b.0.1) (x, rest) b.2) (cut, (front.1, later.1));
+  again = λ x rest fit.
+      ap (both first second) (append_assoc (p x.0) (q x.1) rest) ∙ rw (u.again x.0 (q x.1 ++ rest) fit.0, v.again x.1 rest fit.1) refl;
+}
+
+-- a value that is the same as what it is made of
+pub made_undoes : {A B : Type 0} (read : Reader A) (p : A → List ℕ) (P : A → Type 0) (build : A → B) (parts : B → A)
+    → ((b : B) → build (parts b) ≡ b) → ((a : A) → parts (build a) ≡ a) → Undoes read p P → Undoes (made build read) (λ b. p (parts b)) (λ b. P (parts b))
+made_undoes {A} {B} read p P build parts whole back u = record {
+  takes = λ bytes b rest small e.
+      let a = bind_some (read bytes) (λ a. Some (build a.0, a.1)) (b, rest) e in
+      let front = u.takes bytes a.0.0 a.0.1 small a.1 in
+      let same : (bytes ≡ p (parts (build a.0.0)) ++ a.0.1) × P (parts (build a.0.0)) = subst (λ (t : A). (bytes ≡ p t ++ a.0.1) × P t) (sym (back a.0.0)) front in
+      subst (λ (y : B × List ℕ). (bytes ≡ p (parts y.0) ++ y.1) × P (parts y.0)) (same_Some (build a.0.0, a.0.1) (b, rest) a.2) same;
+  again = λ b rest fit. rw (u.again (parts b) rest fit) (ap (λ (t : B). Some (t, rest)) (whole b));
+}
+
+-- the same spelling and the same condition in other words
+pub recast : {A : Type 0} (read : Reader A) (p q : A → List ℕ) (P Q : A → Type 0)
+    → ((a : A) → p a ≡ q a) → ((a : A) → P a → Q a) → ((a : A) → Q a → P a) → Undoes read p P → Undoes read q Q
+recast {A} read p q P Q same to from u = record {
+  takes = λ bytes a rest small e.
+      let front = u.takes bytes a rest small e in
+      (subst (λ (t : List ℕ). bytes ≡ t ++ rest) (same a) front.0, to a front.1);
+  again = λ a rest fit. ap (λ (t : List ℕ). read (t ++ rest)) (sym (same a)) ∙ u.again a rest (from a fit);
+}
+
+-- ---- tags
+
+chosen : {A : Type 0} (b : Bool) (x y z : Option A) → cond b x y ≡ z → ((b ≡ true) × (x ≡ z)) ⊎ (y ≡ z)
+chosen true x y z e = inl (refl, e)
+chosen false x y z e = inr e
+
+pub nothing_takes : {A : Type 0} (p : A → List ℕ) (P : A → Type 0) → Takes nothing p P
+nothing_takes p P bytes a rest small e = absurd cc
+
+pub tagged_takes : {A : Type 0} (tag : ℕ) (read other : Reader A) (p : A → List ℕ) (P : A → Type 0)
+    → TakesBehind tag read p P → Takes other p P → Takes (tagged tag read other) p P
+tagged_takes tag read other p P first second [] a rest small e = absurd cc
+tagged_takes tag read other p P first second (b ∷ bytes) a rest small e =
+    elim (chosen (eqb b tag) (read bytes) (other (b ∷ bytes)) (Some (a, rest)) e) [
+      | inl here ↦ subst (λ (t : ℕ). (t ∷ bytes ≡ p a ++ rest) × P a) (sym (eqb-true b tag here.0)) (first bytes a rest (λ i. small (suc i)) here.1)
+      | inr there ↦ second (b ∷ bytes) a rest small there
+    ]
+
+-- a value that a tag alone stands for
+pub given_takes : {A : Type 0} (tag : ℕ) (a : A) (p : A → List ℕ) (P : A → Type 0) → p a ≡ tag ∷ [] → P a → TakesBehind tag (given a) p P
+given_takes {A} tag a p P spelled fit bytes b rest small e =
+    let here : (tag ∷ bytes ≡ p a ++ bytes) × P a = (rw spelled refl, fit) in
+    subst (λ (y : A × List ℕ). (tag ∷ bytes ≡ p y.0 ++ y.1) × P y.0) (same_Some (a, bytes) (b, rest) e) here
+
+-- a value that a tag and its parts stand for
+pub made_takes : {A B : Type 0} (tag : ℕ) (read : Reader A) (p : A → List ℕ) (P : A → Type 0) (build : A → B) (q : B → List ℕ) (Q : B → Type 0)
+    → ((a : A) → q (build a) ≡ tag ∷ p a) → ((a : A) → P a → Q (build a)) → Undoes read p P → TakesBehind tag (made build read) q Q
+made_takes {A} {B} tag read p P build q Q spelled fits u bytes b rest small e =
+    let a = bind_some (read bytes) (λ a. Some (build a.0, a.1)) (b, rest) e in
+    let front = u.takes bytes a.0.0 a.0.1 small a.1 in
+    let here : (tag ∷ bytes ≡ q (build a.0.0) ++ a.0.1) × Q (build a.0.0) = (rw (spelled a.0.0) (ap (λ (t : List ℕ). tag ∷ t) front.0), fits a.0.0 front.1) in
+    subst (λ (y : B × List ℕ). (tag ∷ bytes ≡ q y.0 ++ y.1) × Q y.0) (same_Some (build a.0.0, a.0.1) (b, rest) a.2) here
+
+pub made_again : {A B : Type 0} (read : Reader A) (p : A → List ℕ) (P : A → Type 0) (build : A → B) → Undoes read p P → (a : A) (rest : List ℕ) → P a → made build read (p a ++ rest) ≡ Some (build a, rest)
+made_again read p P build u a rest fit = rw (u.again a rest fit) refl

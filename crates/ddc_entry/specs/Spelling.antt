@@ -1,0 +1,113 @@
+-- The bytes of an entry. Numbers are little-endian.
+use Rattle.std.specs.Prelude.{◌≡◌, ℕ, ◌<◌, ◌^◌, Bool, true, false, List, [], ◌∷◌, ◌++◌, length, slice_index, Option, None, Some, IfSome}
+use Rattle.std.specs.List.{flat_map, AllByRecursion}
+use Rattle.std.specs.Int.{w32, w64, to_le_bytes}
+use Rattle.ddc_names.specs.Texts.{name_fault}
+use Rattle.ddc_names.specs.declared.hash.IoHash.{IoHash}
+use Rattle.ddc_names.specs.declared.reference.RefName.{RefName}
+use Rattle.ddc_names.specs.declared.reference.RefSpot.{RefSpot}
+use Rattle.cb_fields.specs.declared.links.Link.{Link}
+use Rattle.cb_fields.specs.declared.links.LinkKind.{LinkKind}
+use Rattle.cb_fields.specs.declared.links.LinkKind.TheVariants.{Object, Binary}
+use Rattle.ddc_model.specs.declared.entry.Stored.{Stored}
+use Rattle.ddc_model.specs.declared.entry.Entry.{Entry}
+use Rattle.ddc_model.specs.declared.entry.Entry.TheVariants.{Space, Upload, Repin, Put, Finalise, Delete, Touch}
+
+-- ---- the parts
+
+-- a count or an hour in four bytes
+abbrev pub four : ℕ → List ℕ
+four n = to_le_bytes w32 n
+
+-- a length or a place in eight bytes
+abbrev pub eight : ℕ → List ℕ
+eight n = to_le_bytes w64 n
+
+-- a namespace or a bucket: its length in one byte, and its text
+abbrev pub name : List ℕ → List ℕ
+name text = length text ∷ text
+
+-- a bucket and the bytes of a key
+abbrev pub spot : RefSpot → List ℕ
+spot place = name place.bucket ++ place.key.0
+
+-- a namespace and a spot
+abbrev pub ref_name : RefName → List ℕ
+ref_name whole = name whole.space ++ spot whole.spot
+
+-- 1 for yes and 0 for no
+abbrev pub flag : Bool → ℕ
+flag true = 1
+flag false = 0
+
+-- 0 for a link to an object and 1 for one to a blob of any bytes
+abbrev pub kind_byte : LinkKind → ℕ
+kind_byte Object = 0
+kind_byte Binary = 1
+
+abbrev pub link : Link → List ℕ
+link to = kind_byte to.kind ∷ to.hash.0
+
+-- a hash, the length, the first unit, and the links behind their count
+abbrev pub stored : Stored → List ℕ
+stored blob = blob.hash.0 ++ eight blob.len ++ eight blob.start ++ four (length blob.links) ++ flat_map link blob.links
+
+-- 0 for none, or 1 and what is there
+abbrev pub optional : {A : Type 0} → (A → List ℕ) → Option A → List ℕ
+optional spelled None = 0 ∷ []
+optional spelled (Some a) = 1 ∷ spelled a
+
+-- ---- the whole
+
+-- a tag and the entry's fields in order
+abbrev pub spelling : Entry → List ℕ
+spelling (Space space ttl pin) = 0x01 ∷ name space ++ four ttl ++ four pin
+spelling (Upload space blob hour) = 0x02 ∷ name space ++ stored blob ++ four hour
+spelling (Repin space hash hour) = 0x03 ∷ name space ++ hash.0 ++ four hour
+spelling (Put whole_name root fresh whole hour) = 0x04 ∷ ref_name whole_name ++ root.0 ++ optional stored fresh ++ flag whole ∷ four hour
+spelling (Finalise whole_name hash hour) = 0x05 ∷ ref_name whole_name ++ hash.0 ++ four hour
+spelling (Delete whole_name hour) = 0x06 ∷ ref_name whole_name ++ four hour
+spelling (Touch whole_name hour) = 0x07 ∷ ref_name whole_name ++ four hour
+
+-- ---- what has a spelling: what every value of the code's types is
+
+-- a number of four bytes, and one of eight
+abbrev pub IsFour : ℕ → Type 0
+IsFour n = n < 2 ^ 32
+
+abbrev pub IsEight : ℕ → Type 0
+IsEight n = n < 2 ^ 64
+
+-- the text of a namespace or a bucket
+abbrev pub IsName : List ℕ → Type 0
+IsName text = name_fault text ≡ None
+
+-- 20 bytes, of a hash or a key
+pub record AreTwenty (bytes : List ℕ) : Type 0 where
+  pub count : length bytes ≡ 20
+  pub small : (i : ℕ) → slice_index bytes i < 256
+
+abbrev pub IsHash : IoHash → Type 0
+IsHash hash = AreTwenty hash.0
+
+abbrev pub IsSpot : RefSpot → Type 0
+IsSpot place = IsName place.bucket × AreTwenty place.key.0
+
+abbrev pub IsRefName : RefName → Type 0
+IsRefName whole = IsName whole.space × IsSpot whole.spot
+
+abbrev pub IsLink : Link → Type 0
+IsLink to = IsHash to.hash
+
+-- a hash, numbers of their bytes, and fewer than 2^32 links
+abbrev pub IsStored : Stored → Type 0
+IsStored blob = IsHash blob.hash × IsEight blob.len × IsEight blob.start × IsFour (length blob.links) × AllByRecursion IsLink blob.links
+
+abbrev pub IsEntry : Entry → Type 0
+IsEntry (Space space ttl pin) = IsName space × IsFour ttl × IsFour pin
+IsEntry (Upload space blob hour) = IsName space × IsStored blob × IsFour hour
+IsEntry (Repin space hash hour) = IsName space × IsHash hash × IsFour hour
+IsEntry (Put whole_name root fresh whole hour) = IsRefName whole_name × IsHash root × IfSome fresh IsStored × IsFour hour
+IsEntry (Finalise whole_name hash hour) = IsRefName whole_name × IsHash hash × IsFour hour
+IsEntry (Delete whole_name hour) = IsRefName whole_name × IsFour hour
+IsEntry (Touch whole_name hour) = IsRefName whole_name × IsFour hour

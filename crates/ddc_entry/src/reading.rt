@@ -1,0 +1,161 @@
+//! Entries, read from bytes.
+
+ghost use Rattle.std.specs.Prelude.{◌≡◌, ◌++◌, List, ℕ, length, drop, Some, IfSome, IfOk};
+ghost use Rattle.ddc_model.specs.declared.entry.Entry.{Entry};
+ghost use Rattle.ddc_entry.specs.Spelling.{spelling, IsEntry};
+ghost use Rattle.ddc_entry.specs.Reading.{Gives, delete_at, entry_at, finalise_at, put_at, repin_at, space_at, touch_at, upload_at};
+
+use crate::parts::{
+    Unread, take_flag, take_four, take_fresh, take_hash, take_ref_name, take_space, take_stored,
+};
+use ddc_model::Entry;
+use ddc_names::NoMemory;
+use std::alloc::Global;
+
+#[tactic(auto, unfolding(crate::specs::Reading::space_at))]
+fn space_of(bytes: &[u8]) -> Result<(Entry, &[u8]), Unread>
+    ensures { Gives (λ x. (x.0, x.1.now)) result (space_at bytes.now) }
+{
+    let Some((space, rest)) = take_space(bytes) else {
+        return Err(Unread::Refused);
+    };
+    let (ttl, rest) = take_four(rest)?;
+    let (pin, rest) = take_four(rest)?;
+    Ok((Entry::Space { space, ttl, pin }, rest))
+}
+
+#[tactic(auto, unfolding(crate::specs::Reading::upload_at))]
+fn upload_of(alloc: Global, bytes: &[u8]) -> Result<(Entry, &[u8]), Unread>
+    ensures { Gives (λ x. (x.0, x.1.now)) result (upload_at bytes.now) }
+{
+    let Some((space, rest)) = take_space(bytes) else {
+        return Err(Unread::Refused);
+    };
+    let (blob, rest) = take_stored(alloc, rest)?;
+    let (hour, rest) = take_four(rest)?;
+    Ok((Entry::Upload { space, blob, hour }, rest))
+}
+
+#[tactic(auto, unfolding(crate::specs::Reading::repin_at))]
+fn repin_of(bytes: &[u8]) -> Result<(Entry, &[u8]), Unread>
+    ensures { Gives (λ x. (x.0, x.1.now)) result (repin_at bytes.now) }
+{
+    let Some((space, rest)) = take_space(bytes) else {
+        return Err(Unread::Refused);
+    };
+    let (hash, rest) = take_hash(rest)?;
+    let (hour, rest) = take_four(rest)?;
+    Ok((Entry::Repin { space, hash, hour }, rest))
+}
+
+#[tactic(auto, unfolding(crate::specs::Reading::put_at))]
+fn put_of(alloc: Global, bytes: &[u8]) -> Result<(Entry, &[u8]), Unread>
+    ensures { Gives (λ x. (x.0, x.1.now)) result (put_at bytes.now) }
+{
+    let Some((name, rest)) = take_ref_name(bytes) else {
+        return Err(Unread::Refused);
+    };
+    let (root, rest) = take_hash(rest)?;
+    let (fresh, rest) = take_fresh(alloc, rest)?;
+    let (whole, rest) = take_flag(rest)?;
+    let (hour, rest) = take_four(rest)?;
+    Ok((
+        Entry::Put {
+            name,
+            root,
+            fresh,
+            whole,
+            hour,
+        },
+        rest,
+    ))
+}
+
+#[tactic(auto, unfolding(crate::specs::Reading::finalise_at))]
+fn finalise_of(bytes: &[u8]) -> Result<(Entry, &[u8]), Unread>
+    ensures { Gives (λ x. (x.0, x.1.now)) result (finalise_at bytes.now) }
+{
+    let Some((name, rest)) = take_ref_name(bytes) else {
+        return Err(Unread::Refused);
+    };
+    let (hash, rest) = take_hash(rest)?;
+    let (hour, rest) = take_four(rest)?;
+    Ok((Entry::Finalise { name, hash, hour }, rest))
+}
+
+#[tactic(auto, unfolding(crate::specs::Reading::delete_at))]
+fn delete_of(bytes: &[u8]) -> Result<(Entry, &[u8]), Unread>
+    ensures { Gives (λ x. (x.0, x.1.now)) result (delete_at bytes.now) }
+{
+    let Some((name, rest)) = take_ref_name(bytes) else {
+        return Err(Unread::Refused);
+    };
+    let (hour, rest) = take_four(rest)?;
+    Ok((Entry::Delete { name, hour }, rest))
+}
+
+#[tactic(auto, unfolding(crate::specs::Reading::touch_at))]
+fn touch_of(bytes: &[u8]) -> Result<(Entry, &[u8]), Unread>
+    ensures { Gives (λ x. (x.0, x.1.now)) result (touch_at bytes.now) }
+{
+    let Some((name, rest)) = take_ref_name(bytes) else {
+        return Err(Unread::Refused);
+    };
+    let (hour, rest) = take_four(rest)?;
+    Ok((Entry::Touch { name, hour }, rest))
+}
+
+#[tactic(auto, unfolding(crate::specs::Reading::entry_at))]
+fn take_entry(alloc: Global, bytes: &[u8]) -> Result<(Entry, &[u8]), Unread>
+    ensures { Gives (λ x. (x.0, x.1.now)) result (entry_at bytes.now) }
+{
+    match bytes {
+        [0x01, rest @ ..] => space_of(rest),
+        [0x02, rest @ ..] => upload_of(alloc, rest),
+        [0x03, rest @ ..] => repin_of(rest),
+        [0x04, rest @ ..] => put_of(alloc, rest),
+        [0x05, rest @ ..] => finalise_of(rest),
+        [0x06, rest @ ..] => delete_of(rest),
+        [0x07, rest @ ..] => touch_of(rest),
+        _ => Err(Unread::Refused),
+    }
+}
+
+/// The entry that the bytes spell, and `None` where they spell none. Each byte belongs to the spelling:
+/// bytes behind an entry are refused.
+///
+/// # Errors
+///
+/// `NoMemory` where there is none for the links of a blob.
+pub fn read_entry(alloc: Global, bytes: &[u8]) -> Result<Option<Entry>, NoMemory>
+    ensures found_is_spelled { IfOk result (λ found. IfSome found (λ e. IsEntry e × (bytes.now ≡ spelling e))) }
+    ensures spelled_is_found { IfOk result (λ found. (e : Entry) → IsEntry e → bytes.now ≡ spelling e → found ≡ Some e) }
+{
+    match read_front(alloc, bytes) {
+        Ok(Some((entry, len))) => {
+            if len < bytes.len() {
+                return Ok(None);
+            }
+            Ok(Some(entry))
+        }
+        Ok(None) => Ok(None),
+        Err(NoMemory) => Err(NoMemory),
+    }
+}
+
+/// The entry at the front of the bytes, and how many bytes spell it. `None` where no front of them
+/// spells one.
+///
+/// # Errors
+///
+/// `NoMemory` where there is none for the links of a blob.
+pub fn read_front(alloc: Global, bytes: &[u8]) -> Result<Option<(Entry, usize)>, NoMemory>
+    ensures found_is_spelled { IfOk result (λ found. IfSome found (λ x. IsEntry x.0 × (x.1 ≡ length (spelling x.0)) × (bytes.now ≡ spelling x.0 ++ drop x.1 bytes.now))) }
+    ensures spelled_is_found { IfOk result (λ found. (e : Entry) (rest : List ℕ) → IsEntry e → bytes.now ≡ spelling e ++ rest → found ≡ Some (e, length (spelling e))) }
+{
+    match take_entry(alloc, bytes) {
+        Ok((entry, rest)) => Ok(Some((entry, bytes.len() - rest.len()))),
+        Err(Unread::Refused) => Ok(None),
+        Err(Unread::NoMemory) => Err(NoMemory),
+    }
+}
