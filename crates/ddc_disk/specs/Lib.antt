@@ -5,3 +5,5 @@ pub mod Told
 pub mod Images
 pub mod Lends
 pub mod Lending
+pub mod Memory
+pub mod MemoryLaws

@@ -10,9 +10,15 @@ ghost use Rattle.ddc_disk.specs.Disk.{Meaning, IsImage, EachImage, overwritten, 
 
 use ddc_names::Failed;
 
+mod bytes;
+mod call;
 mod devices;
+mod log;
+mod memory;
+mod tear;
 
 pub use devices::{Devices, HeldDevices};
+pub use memory::MemDisk;
 
 /// A file on a device that may fail and crash.
 pub trait Disk {
