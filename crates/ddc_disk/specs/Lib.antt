@@ -7,3 +7,4 @@ pub mod Lends
 pub mod Lending
 pub mod Memory
 pub mod MemoryLaws
+pub mod MemDisks

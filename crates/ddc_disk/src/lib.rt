@@ -14,11 +14,12 @@ mod bytes;
 mod call;
 mod devices;
 mod log;
+mod mem_disk;
 mod memory;
 mod tear;
 
 pub use devices::{Devices, HeldDevices};
-pub use memory::MemDisk;
+pub use mem_disk::MemDisk;
 
 /// A file on a device that may fail and crash.
 pub trait Disk {

@@ -1,25 +1,92 @@
 //! A disk in memory. It keeps each call, so that it knows what a crash at any moment might have left.
 
-ghost use Rattle.std.specs.Prelude.{◌≡◌, ◌+◌, ◌^◌, ◌<◌, ◌≤◌, [], true, length, slice_index, EachIndex, IfOk, IfSome, IsErr, IsTrue, OnOk, Some, refl};
+ghost use Rattle.std.specs.Prelude.{◌≡◌, ◌+◌, ◌^◌, ◌<◌, ◌≤◌, [], true, length, slice_index, EachIndex, IfOk, IfSome, IsErr, IsTrue, OnOk, Some, refl, take};
 ghost use Rattle.ddc_disk.specs.Causes.{HasCause};
 ghost use Rattle.ddc_disk.specs.Disk.{overwritten, Tears, IsCalm, Continues, EachImage};
-ghost use Rattle.ddc_disk.specs.Memory.{history, memory_meaning, reads_now, all_by, IsCounted};
+ghost use Rattle.ddc_disk.specs.Memory.{fresh, after_calls, history, memory_meaning, reads_now, all_by, IsCounted, IsCrash};
+ghost use Rattle.ddc_disk.specs.MemDisks.{history_of};
 ghost use Rattle.ddc_disk.specs.MemoryLaws.{memory_rests, memory_reads, memory_small};
 
-use crate::Disk;
+use crate::{Disk, MemDisk};
 use crate::bytes::read_window;
 use crate::log::{Log, look, refuse, sync_log, write_log};
-use ddc_names::{Failed, Rows};
+use crate::tear::crash_image;
+use ddc_names::{Failed, NoMemory, Rows};
 use std::alloc::Global;
 
-/// A disk in memory, which keeps a list of all calls. Contracts see its history.
-#[derive(Debug, Drop)]
-pub struct MemDisk {
-    log: Log,
-    ghost in_order: { IsTrue (all_by log.moment log.calls) },
-    ghost as_read: { log.bytes.items ≡ reads_now (history log) },
-    ghost counted: { IsCounted log },
-    ghost small: { length log.bytes.items < 2 ^ 64 },
+impl MemDisk {
+    /// An empty disk. Call `k`, counted from 0, fails where `failing` lists `k`; a number that is
+    /// listed twice counts once. Reads, writes, syncs and questions for the length count.
+    pub fn new(alloc: Global, failing: Rows<u64>) -> MemDisk
+        ensures { history_of result ≡ record { start = []; failing = failing; calls = []; moment = 0; starved = 0 } }
+    {
+        MemDisk {
+            log: Log {
+                alloc,
+                start: Vec::new(alloc),
+                failing,
+                calls: Rows::new(alloc),
+                moment: 0,
+                failed: 0,
+                starved: 0,
+                bytes: Vec::new(alloc),
+            },
+        }
+    }
+
+    /// How many calls were made. One that found no memory doesn't count.
+    pub fn calls(&self) -> u64
+        ensures { result ≡ length (history_of self.now).calls }
+    {
+        self.log.calls.len() as u64
+    }
+
+    /// How many calls found no memory for their record or bytes, or had a range that doesn't fit u64
+    /// and weren't listed. The count of faults is that of the listed calls that were made, plus this.
+    pub fn starved(&self) -> u64
+        ensures { result ≡ (history_of self.now).starved }
+    {
+        self.log.starved
+    }
+
+    /// The disk after that many calls and a crash. It has no calls of its own yet, and none of them is
+    /// to fail.
+    ///
+    /// The choice picks one of the images that the crash may leave. It is read as digits, the lowest
+    /// first, anew behind each sync that succeeded. Of each write since then the first digit, in base
+    /// 2, says whether none of the write is there (0) or all of it (1). The second, in a base of the
+    /// number of possible ends, moves the file's end from there. One digit in base 256 for each byte
+    /// that the write leaves open is added to that byte. So 0 leaves the bytes of the last sync, and
+    /// 1 those with the first write behind it.
+    ///
+    /// # Errors
+    ///
+    /// `NoMemory` where there is none for the image.
+    pub fn crashed(&self, calls: u64, choice: u64) -> Result<MemDisk, NoMemory>
+        ensures image { IfOk result (λ disk. IsCrash (after_calls (fresh (history_of self.now).start) (take calls (history_of self.now).calls)) (history_of disk).start) }
+        ensures anew { IfOk result (λ disk. history_of disk ≡ record { start = (history_of disk).start; failing = []; calls = []; moment = 0; starved = 0 }) }
+    {
+        let alloc = self.log.alloc;
+        let all = self.log.calls.as_slice();
+        let made = if calls < all.len() as u64 {
+            &all[..calls as usize]
+        } else {
+            all
+        };
+        let start = crash_image(alloc, &self.log.start, made, choice)?;
+        Ok(MemDisk {
+            log: Log {
+                alloc,
+                bytes: start.to_vec(alloc)?,
+                start,
+                failing: Rows::new(alloc),
+                calls: Rows::new(alloc),
+                moment: 0,
+                failed: 0,
+                starved: 0,
+            },
+        })
+    }
 }
 
 impl Disk for MemDisk {
