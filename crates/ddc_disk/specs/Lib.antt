@@ -8,3 +8,4 @@ pub mod Lending
 pub mod Memory
 pub mod MemoryLaws
 pub mod MemDisks
+pub mod Unknown

@@ -13,12 +13,16 @@ use ddc_names::Failed;
 mod bytes;
 mod call;
 mod devices;
+mod file;
 mod log;
 mod mem_disk;
 mod memory;
 mod tear;
+#[cfg(test)]
+mod tests;
 
 pub use devices::{Devices, HeldDevices};
+pub use file::FileDisk;
 pub use mem_disk::MemDisk;
 
 /// A file on a device that may fail and crash.

@@ -2,17 +2,30 @@
 
 ghost use Rattle.std.specs.Prelude.{◌≡◌, ◌+◌, ◌^◌, ◌<◌, ◌≤◌, [], true, length, slice_index, EachIndex, IfOk, IfSome, IsErr, IsTrue, OnOk, Some, refl, take};
 ghost use Rattle.ddc_disk.specs.Causes.{HasCause};
-ghost use Rattle.ddc_disk.specs.Disk.{overwritten, Tears, IsCalm, Continues, EachImage};
-ghost use Rattle.ddc_disk.specs.Memory.{fresh, after_calls, history, memory_meaning, reads_now, all_by, IsCounted, IsCrash};
-ghost use Rattle.ddc_disk.specs.MemDisks.{history_of};
+ghost use Rattle.ddc_disk.specs.Disk.{IsImage, overwritten, Tears, IsCalm, Continues, EachImage};
+ghost use Rattle.ddc_disk.specs.Memory.{fresh, after_calls, history, memory_meaning, reads_now, all_by, IsCrash, AfterCall, AfterTooFar};
+ghost use Rattle.ddc_disk.specs.MemDisks.{history_of, told_by, line_of};
+ghost use Rattle.ddc_disk.specs.declared.call.What.TheVariants.{Write, Sync, Look};
 ghost use Rattle.ddc_disk.specs.MemoryLaws.{memory_rests, memory_reads, memory_small};
 
-use crate::{Disk, MemDisk};
 use crate::bytes::read_window;
+use crate::call::Call;
 use crate::log::{Log, look, refuse, sync_log, write_log};
 use crate::tear::crash_image;
+use crate::{Disk, MemDisk};
 use ddc_names::{Failed, NoMemory, Rows};
 use std::alloc::Global;
+
+// The first so many calls.
+fn front(calls: &[Call], count: u64) -> &[Call]
+    ensures { result.now ≡ take count calls.now }
+{
+    if count < calls.len() as u64 {
+        &calls[..count as usize]
+    } else {
+        calls
+    }
+}
 
 impl MemDisk {
     /// An empty disk. Call `k`, counted from 0, fails where `failing` lists `k`; a number that is
@@ -64,15 +77,11 @@ impl MemDisk {
     /// `NoMemory` where there is none for the image.
     pub fn crashed(&self, calls: u64, choice: u64) -> Result<MemDisk, NoMemory>
         ensures image { IfOk result (λ disk. IsCrash (after_calls (fresh (history_of self.now).start) (take calls (history_of self.now).calls)) (history_of disk).start) }
+        ensures now { length (history_of self.now).calls ≤ calls → IfOk result (λ disk. IsImage (line_of self.now) (history_of disk).start) }
         ensures anew { IfOk result (λ disk. history_of disk ≡ record { start = (history_of disk).start; failing = []; calls = []; moment = 0; starved = 0 }) }
     {
         let alloc = self.log.alloc;
-        let all = self.log.calls.as_slice();
-        let made = if calls < all.len() as u64 {
-            &all[..calls as usize]
-        } else {
-            all
-        };
+        let made = front(self.log.calls.as_slice(), calls);
         let start = crash_image(alloc, &self.log.start, made, choice)?;
         Ok(MemDisk {
             log: Log {
@@ -102,24 +111,53 @@ impl Disk for MemDisk {
 
     ghost rests = { λ d. memory_rests (history d.log) d.in_order };
 
-    fn read(&mut self, at: u64, into: &mut [u8]) -> Result<(), Failed> {
+    fn read(&mut self, at: u64, into: &mut [u8]) -> Result<(), Failed>
+        ensures bytes { OnOk result (IfSome (told_by self.old).held (λ file. EachIndex into.new (λ k. slice_index into.new k ≡ slice_index file (at + k)))) }
+        ensures held { (told_by self.new).held ≡ (told_by self.old).held }
+        ensures calm { IsCalm (line_of self.old) (line_of self.new) }
+        ensures time { Continues (line_of self.old) (line_of self.new) }
+        ensures cause { HasCause (told_by self.old).faults (told_by self.new).faults result }
+        ensures after { AfterCall (history_of self.old) Look result (history_of self.new) }
+    {
         look(&mut self.log)?;
         read_window(&self.log.bytes, at as usize, into);
         Ok(())
     }
 
-    fn write_at(&mut self, at: u64, bytes: &[u8]) -> Result<(), Failed> {
+    fn write_at(&mut self, at: u64, bytes: &[u8]) -> Result<(), Failed>
+        ensures written { OnOk result (IfSome (told_by self.old).held (λ file. (told_by self.new).held ≡ Some (overwritten file at bytes.now))) }
+        ensures crash { Tears at (length bytes.now) (line_of self.old) (line_of self.new) }
+        ensures too_far { 2 ^ 64 ≤ at + length bytes.now → IsErr result × ((told_by self.new).held ≡ (told_by self.old).held) × IsCalm (line_of self.old) (line_of self.new) }
+        ensures time { Continues (line_of self.old) (line_of self.new) }
+        ensures cause { HasCause (told_by self.old).faults (told_by self.new).faults result }
+        ensures after { at + length bytes.now < 2 ^ 64 → AfterCall (history_of self.old) (Write at bytes.now) result (history_of self.new) }
+        ensures after_too_far { 2 ^ 64 ≤ at + length bytes.now → AfterTooFar (history_of self.old) (history_of self.new) }
+    {
         if at.checked_add(bytes.len() as u64).is_none() {
             return Err(refuse(&mut self.log));
         }
         write_log(&mut self.log, at, bytes)
     }
 
-    fn sync(&mut self) -> Result<(), Failed> {
+    fn sync(&mut self) -> Result<(), Failed>
+        ensures durable { OnOk result (IfSome (told_by self.old).held (λ file. EachImage (line_of self.new) (λ image. image ≡ file))) }
+        ensures held { (told_by self.new).held ≡ (told_by self.old).held }
+        ensures calm { IsCalm (line_of self.old) (line_of self.new) }
+        ensures time { Continues (line_of self.old) (line_of self.new) }
+        ensures cause { HasCause (told_by self.old).faults (told_by self.new).faults result }
+        ensures after { AfterCall (history_of self.old) Sync result (history_of self.new) }
+    {
         sync_log(&mut self.log)
     }
 
-    fn len(&mut self) -> Result<u64, Failed> {
+    fn len(&mut self) -> Result<u64, Failed>
+        ensures len { IfOk result (λ n. IfSome (told_by self.old).held (λ file. n ≡ length file)) }
+        ensures held { (told_by self.new).held ≡ (told_by self.old).held }
+        ensures calm { IsCalm (line_of self.old) (line_of self.new) }
+        ensures time { Continues (line_of self.old) (line_of self.new) }
+        ensures cause { HasCause (told_by self.old).faults (told_by self.new).faults result }
+        ensures after { AfterCall (history_of self.old) Look result (history_of self.new) }
+    {
         look(&mut self.log)?;
         Ok(self.log.bytes.len() as u64)
     }

@@ -47,11 +47,7 @@ fn torn_end(old: usize, after: usize, whole: bool, choice: &mut u64) -> usize
 {
     let greatest = old.max(after);
     let less = draw(choice, ((greatest - old) as u64).saturating_add(1)) as usize;
-    if whole {
-        greatest - less
-    } else {
-        old + less
-    }
+    if whole { greatest - less } else { old + less }
 }
 
 // The bytes of the places that a write leaves open, each as far from its base as the choice says.

@@ -25,4 +25,3 @@ returns-else-not-done-clause-failed c counted =
     let more : failures c.push.new.self ≡ failures (c.args.log.now.calls ++ call ∷ []) = ap failures pushed in
     let one : ◌≡◌ {A = ℕ} (if not c.contains-done.result then 0 else 1) 0 = ap (λ b. let n : ℕ = if not b then 0 else 1 in n) c.if-not-done.false in
     omega (arith, more, failures_last c.args.log.now.calls call, one, counted)
-
