@@ -15,6 +15,9 @@ fn disk(alloc: Global, failing: &[u64]) -> Result<MemDisk, NoMemory> {
 // Whether a read from the front gives these bytes.
 fn reads<D: Disk>(disk: &mut D, bytes: &[u8]) -> bool {
     let mut buffer = [0xee; 16];
+    if bytes.len() > buffer.len() {
+        return false;
+    }
     let window = &mut buffer[..bytes.len()];
     disk.read(0, window).is_ok() && *window == *bytes
 }
