@@ -1,0 +1,4 @@
+mod Parts
+mod Spelling
+mod Append
+mod Making
