@@ -2,3 +2,4 @@ mod Parts
 mod Spelling
 mod Append
 mod Making
+mod Reading

@@ -11,6 +11,8 @@ mod framed;
 mod journal;
 mod load;
 mod parse;
+#[cfg(test)]
+mod tests;
 
 pub use fault::JournalFault;
 pub use framed::Framed;

@@ -1,12 +1,29 @@
 //! The bytes of a file, read as a journal.
 
 ghost use Rattle.std.specs.Prelude.{◌≡◌, ◌<◌, ◌≤◌, ◌^◌, ◌++◌, ◌∷◌, [], length, take, drop, slice_index, IfErr, IfNone, IfOk, IfSome, OnErr, OnOk};
+ghost use Rattle.std.specs.Int.{from_le_bytes, to_le_bytes, w32, w64};
 ghost use Rattle.ddc_journal.specs.Journal.{magic, framed, header, version_in, generation_in};
 ghost use Rattle.ddc_journal.specs.Faults.{FaultOf, HasNoItem, EndsAt, ItemFault, IsOpen, LoadsAs};
 
 use crate::JournalFault;
 use ddc_names::{ByteList, NoMemory, Rows};
 use std::alloc::Global;
+
+// The number of four bytes, the lowest first.
+fn short_number(bytes: [u8; 4]) -> u32
+    ensures value { result ≡ from_le_bytes w32 bytes }
+    ensures back { to_le_bytes w32 result ≡ bytes }
+{
+    u32::from_le_bytes(bytes)
+}
+
+// The number of eight bytes, the lowest first.
+fn long_number(bytes: [u8; 8]) -> u64
+    ensures value { result ≡ from_le_bytes w64 bytes }
+    ensures back { to_le_bytes w64 result ≡ bytes }
+{
+    u64::from_le_bytes(bytes)
+}
 
 // What stands before the items, and they.
 #[derive(Clone, Copy)]
@@ -22,6 +39,7 @@ fn split_head(bytes: &[u8]) -> Option<Head<'_>>
     ensures magic { IfSome result (λ head. head.magic.now ≡ take 8 bytes.now) }
     ensures version { IfSome result (λ head. head.version ≡ version_in bytes.now) }
     ensures generation { IfSome result (λ head. head.generation ≡ generation_in bytes.now) }
+    ensures fits { IfSome result (λ head. head.generation < 2 ^ 64) }
     ensures gate { IfSome result (λ head. head.gate ≡ slice_index bytes.now 20) }
     ensures items { IfSome result (λ head. head.items.now ≡ drop 21 bytes.now) }
     ensures known { IfSome result (λ head. head.magic.now ≡ magic → head.version ≡ 0 → take 20 bytes.now ≡ header head.generation) }
@@ -42,8 +60,8 @@ fn split_head(bytes: &[u8]) -> Option<Head<'_>>
     };
     Some(Head {
         magic,
-        version: u32::from_le_bytes(*version),
-        generation: u64::from_le_bytes(*generation),
+        version: short_number(*version),
+        generation: long_number(*generation),
         gate: *gate,
         items,
     })
@@ -83,7 +101,7 @@ fn split_item(after: &[u8]) -> Option<(&[u8], &[u8])>
     let Some((length, tail)) = after.split_first_chunk::<4>() else {
         return None;
     };
-    let length = u32::from_le_bytes(*length) as usize;
+    let length = short_number(*length) as usize;
     if tail.len() <= length {
         return None;
     }
