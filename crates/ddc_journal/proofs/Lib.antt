@@ -3,3 +3,4 @@ mod Spelling
 mod Append
 mod Making
 mod Reading
+mod Once

@@ -39,7 +39,7 @@ module _ (front inner : List ℕ) (gate end : ℕ) (place : end ≡ length front
       let tail = drop (end + 1 + n) file in (
         torn.middle ++ tail,
         torn.parts ∙ ap (λ (l : List ℕ). l ++ torn.middle ++ tail) upto_gate ∙ append_assoc (front ++ gate ∷ []) torn.middle tail
-        ∙ append_assoc front (gate ∷ []) (torn.middle ++ tail),
+            ∙ append_assoc front (gate ∷ []) (torn.middle ++ tail),
       )
 
   pub written_behind : (bytes : List ℕ) → overwritten file (end + 1) bytes ≡ front ++ gate ∷ (bytes ++ drop (end + 1 + length bytes) file)

@@ -9,6 +9,7 @@ mod create;
 mod fault;
 mod framed;
 mod journal;
+mod laws;
 mod load;
 mod parse;
 #[cfg(test)]
@@ -17,3 +18,4 @@ mod tests;
 pub use fault::JournalFault;
 pub use framed::Framed;
 pub use journal::Journal;
+pub use laws::one_reading;

@@ -51,7 +51,9 @@ fn an_empty_journal_has_22_bytes(rt: HostRuntime) -> Result<(), Fail> {
 }
 
 #[test]
-fn a_crash_behind_each_call_of_an_append_leaves_the_body_or_not(rt: HostRuntime) -> Result<(), Fail> {
+fn a_crash_behind_each_call_of_an_append_leaves_the_body_or_not(
+    rt: HostRuntime,
+) -> Result<(), Fail> {
     let alloc = rt.alloc();
     let mut disk = disk(alloc, &[])?;
     let Ok(mut journal) = Journal::create(&mut disk, 1) else {
@@ -153,7 +155,11 @@ fn a_journal_on_a_file_gives_its_bodies_back(rt: HostRuntime) -> Result<(), Fail
         return Ok(());
     };
     for _ in 0..3u64 {
-        assert!(rt; journal.append(&mut disk, &Framed::new(alloc, &[0xab])?).is_ok());
+        assert!(rt;
+            journal
+                .append(&mut disk, &Framed::new(alloc, &[0xab])?)
+                .is_ok()
+        );
     }
     let mut again = FileDisk::at_path(rt, alloc, "ddc_journal_test/first")?;
     assert!(rt; bodies(alloc, &mut again) == Ok(3));

@@ -18,7 +18,7 @@ loop-rest-preserved c =
     let rest_is : c.loop-rest.rest.now ≡ 1 ∷ (framed body ++ tail) = grind (arith, common_steps) in
     let added : c.add_body.new.bodies ≡ old ++ body ∷ [] = when_ok c.add_body.result _ (sym c.if-is_err.ensures.value) c.add_body.ensures.ok in (
       ap (λ (l : List (List ℕ)). items l ++ tail) added ∙ ap (λ (l : List ℕ). l ++ tail) (items-push old body) ∙ append_assoc (items old) (1 ∷ framed body) tail
-      ∙ ap (λ (l : List ℕ). items old ++ l) (sym rest_is) ∙ c.loop-rest.invariant.0,
+          ∙ ap (λ (l : List ℕ). items old ++ l) (sym rest_is) ∙ c.loop-rest.invariant.0,
       c.in-Some.ensures.sized.1,
       subst AreSized (sym added) (sized-push old body c.loop-rest.invariant.2 c.in-Some.ensures.sized.0),
     )
