@@ -1,8 +1,8 @@
 -- The two sure writes of an append.
-use Rattle.std.proofs.Common.{◌≡◌, ◌⊎◌, inl, inr, ℕ, ◌+◌, ◌<◌, ◌^◌, List, [], ◌∷◌, ◌++◌, length, refl, sym, ◌∙◌, ap, subst, arith, append_assoc, length-append, drop}
+use Rattle.std.proofs.Common.{◌≡◌, inl, inr, ℕ, ◌+◌, ◌<◌, ◌^◌, List, [], ◌∷◌, ◌++◌, length, refl, sym, ◌∙◌, ap, subst, arith, append_assoc, length-append, drop}
 use Rattle.std.proofs.lemmas.Bool.{cases_eq}
-use Rattle.std.specs.Prelude.{Option, Some, None, IsSome, IfSome}
-use Rattle.ddc_disk.specs.Disk.{Meaning, EachSince, MayTear, IsImage, IsSure, EachImage, overwritten, Torn}
+use Rattle.std.specs.Prelude.{Some, IsSome, IfSome}
+use Rattle.ddc_disk.specs.Disk.{Meaning, EachSince, MayTear, IsImage, IsSure, overwritten, Torn}
 use Rattle.ddc_disk.specs.Since.{weaker, then_runs}
 use Rattle.ddc_disk.specs.Told.{told_file, at_told}
 use Rattle.ddc_journal.specs.Journal.{framed, spelled, Loads, LoadsEither, IsReady}

@@ -1,14 +1,14 @@
 -- What a file is while a journal is made in it.
-use Rattle.std.proofs.Common.{◌≡◌, ◌≢◌, ◌⊎◌, inl, inr, ⊎_elim, ℕ, ◌+◌, ◌-◌, ◌<◌, ◌≤◌, ◌^◌, List, [], ◌∷◌, ◌++◌, length, take, drop, max, refl, sym, ◌∙◌, ap, subst, arith, append_assoc, length-append, take-append-drop}
+use Rattle.std.proofs.Common.{◌≡◌, ◌≢◌, inl, inr, ℕ, ◌-◌, ◌<◌, ◌≤◌, ◌^◌, List, [], ◌∷◌, ◌++◌, length, take, drop, refl, sym, ◌∙◌, ap, subst, arith, append_assoc, length-append, take-append-drop}
 use Rattle.std.specs.Prelude.{Bool, true, false, ◌&&◌, ◌==◌, not, replicate, slice_index, IfSome, IsSome, Option, Some, None}
 use Rattle.std.proofs.Math.ListN.{get_or-eq_default}
 use Rattle.std.proofs.lemmas.List.{take_at, drop-take, drop_more, length-take-le, get_or-append_right}
 use Rattle.std.proofs.lemmas.Bool.{ne_eqb, cases_eq}
 use Rattle.std.specs.Int.{from_le_bytes, w64}
-use Rattle.ddc_disk.specs.Disk.{Meaning, Timeline, Rests, Torn, MayTear, Tears, IsCalm, Continues, IsImage, EachImage, EachSince, IsSure, overwritten}
-use Rattle.ddc_disk.specs.Since.{weaker, then_runs, one_call, tears_once}
+use Rattle.ddc_disk.specs.Disk.{Meaning, Rests, Torn, MayTear, IsCalm, Continues, EachSince, IsSure, overwritten}
+use Rattle.ddc_disk.specs.Since.{weaker, one_call}
 use Rattle.ddc_disk.specs.Told.{at_told}
-use Rattle.ddc_journal.specs.Journal.{header, spelled, generation_in, is_made, Loads, NotMadeOrEmpty, IsReady}
+use Rattle.ddc_journal.specs.Journal.{header, generation_in, Loads, NotMadeOrEmpty, IsReady}
 use Rattle.ddc_journal.specs.Making.{NotMade, IsClosed, IsBlank}
 use Rattle.ddc_journal.proofs.Parts.{torn_behind, written_behind, torn_gate, written_gate, torn_head, written_head}
 use Rattle.ddc_journal.proofs.Spelling.{shut}

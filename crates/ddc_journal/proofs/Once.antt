@@ -1,13 +1,12 @@
 -- A file is at most one journal, or has one fault.
-use Rattle.std.proofs.Common.{◌≡◌, ◌≢◌, ◌⊎◌, inl, inr, ⊎_elim, ℕ, ◌+◌, ◌-◌, ◌<◌, ◌≤◌, ◌^◌, List, [], ◌∷◌, ◌++◌, length, take, drop, refl, sym, ◌∙◌, ap, subst, arith, append_assoc, length-append}
+use Rattle.std.proofs.Common.{◌≡◌, ◌≢◌, inl, inr, ℕ, ◌<◌, ◌≤◌, ◌^◌, List, [], ◌∷◌, ◌++◌, length, take, drop, refl, sym, ◌∙◌, ap, arith, append_assoc, length-append}
 use Rattle.std.specs.Prelude.{true, false, slice_index}
-use Rattle.std.specs.Int.{to_le_bytes, from_le_bytes, w32, w64}
+use Rattle.std.specs.Int.{to_le_bytes, from_le_bytes, w32}
 use Rattle.std.proofs.lemmas.Nat.{from_le_bytes-to_le_bytes_4, from_le_bytes-to_le_bytes_8}
 use Rattle.std.proofs.lemmas.List.{take_at, drop_at}
 use Rattle.ddc_journal.specs.Journal.{magic, framed, items, header, spelled, AreSized, Loads, version_in, generation_in, is_made}
-use Rattle.ddc_journal.specs.Faults.{FaultOf, HasNoItem, HasHead, BreaksAt, IsCorrupt}
+use Rattle.ddc_journal.specs.Faults.{HasNoItem, IsCorrupt}
 use Rattle.ddc_journal.specs.Laws.{OneLoading, LoadsOrFails, OneFault}
-use Rattle.ddc_journal.specs.declared.fault.JournalFault.{JournalFault}
 use Rattle.ddc_journal.specs.declared.fault.JournalFault.TheVariants.{DiskFailed, NotMade, Corrupt, BadVersion, NoMemory}
 use Rattle.ddc_journal.proofs.Reading.{made}
 

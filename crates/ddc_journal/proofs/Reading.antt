@@ -1,12 +1,12 @@
 -- How the bytes of a file are read.
-use Rattle.std.proofs.Common.{◌≡◌, ◌≢◌, ◌⊎◌, inl, inr, ℕ, ◌+◌, ◌<◌, ◌≤◌, ◌^◌, List, [], ◌∷◌, ◌++◌, length, take, drop, refl, sym, ◌∙◌, ap, subst, arith, append_assoc, length-append}
-use Rattle.std.specs.Prelude.{Bool, true, false, ◌&&◌, ◌==◌, not, slice_index}
+use Rattle.std.proofs.Common.{◌≡◌, ◌≢◌, inr, ℕ, ◌≤◌, List, ◌∷◌, ◌++◌, length, take, drop, sym, ◌∙◌, ap, arith, append_assoc, length-append}
+use Rattle.std.specs.Prelude.{Bool, true, ◌&&◌, ◌==◌, not, slice_index}
 use Rattle.std.specs.Int.{to_le_bytes, w32, w64}
 use Rattle.std.proofs.Math.Seq.{take-add}
 use Rattle.std.proofs.lemmas.List.{get_or-append_right}
-use Rattle.std.proofs.lemmas.Bool.{ne_eqb, eq-eqb}
-use Rattle.ddc_journal.specs.Journal.{magic, framed, items, header, spelled, version_in, generation_in, is_made}
-use Rattle.ddc_journal.specs.Faults.{FaultOf, ItemFault, IsOpen, HasHead, BreaksAt}
+use Rattle.std.proofs.lemmas.Bool.{ne_eqb}
+use Rattle.ddc_journal.specs.Journal.{magic, framed, items, header, generation_in, is_made}
+use Rattle.ddc_journal.specs.Faults.{FaultOf, ItemFault, IsOpen}
 use Rattle.ddc_journal.specs.declared.fault.JournalFault.{JournalFault}
 use Rattle.ddc_journal.specs.declared.fault.JournalFault.TheVariants.{DiskFailed, NotMade, Corrupt, BadVersion, NoMemory}
 use Rattle.ddc_journal.proofs.Making.{cut, header_size}

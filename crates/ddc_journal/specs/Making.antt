@@ -1,5 +1,5 @@
 -- What a file is while a journal is made in it.
-use Rattle.std.specs.Prelude.{◌≡◌, ◌≢◌, ◌⊎◌, ℕ, false, List, ◌∷◌, ◌++◌, length}
+use Rattle.std.specs.Prelude.{◌≡◌, ◌≢◌, ℕ, false, List, ◌∷◌, ◌++◌, length}
 use Rattle.ddc_disk.specs.Disk.{Meaning, IsSure}
 use Rattle.ddc_journal.specs.Journal.{header, is_made}
 

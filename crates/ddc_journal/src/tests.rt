@@ -62,15 +62,20 @@ fn a_crash_behind_each_call_of_an_append_leaves_the_body_or_not(
     let before = disk.calls();
     let item = Framed::new(alloc, &[0xab])?;
     assert!(rt; journal.append(&mut disk, &item).is_ok());
-    assert_eq!(rt; disk.calls(), before + 4);
+    assert_eq!(rt; disk.calls(), before.wrapping_add(4));
     assert_eq!(rt; disk.len(), Ok(28));
     for choice in 0..20u64 {
         for calls in 0..3u64 {
-            assert!(rt; bodies(alloc, &mut disk.crashed(before + calls, choice)?) == Ok(0));
+            assert!(rt;
+                bodies(
+                    alloc,
+                    &mut disk.crashed(before.wrapping_add(calls), choice)?
+                ) == Ok(0)
+            );
         }
-        let torn = bodies(alloc, &mut disk.crashed(before + 3, choice)?);
+        let torn = bodies(alloc, &mut disk.crashed(before.wrapping_add(3), choice)?);
         assert!(rt; torn == Ok((choice == 1 || choice == 2) as usize));
-        assert!(rt; bodies(alloc, &mut disk.crashed(before + 4, choice)?) == Ok(1));
+        assert!(rt; bodies(alloc, &mut disk.crashed(before.wrapping_add(4), choice)?) == Ok(1));
     }
     Ok(())
 }
@@ -88,12 +93,12 @@ fn each_image_of_an_append_over_two_letters_loads_to_a_prefix(rt: HostRuntime) -
     assert!(rt; journal.append(&mut disk, &item).is_ok());
     for end in 0..7u64 {
         for letters in 0..64u64 {
-            let mut choice = 0;
+            let mut choice = 0u64;
             for bit in 0..6u64 {
-                choice = choice * 256 + (letters >> bit) % 2;
+                choice = choice.wrapping_mul(256).wrapping_add((letters >> bit) % 2);
             }
-            let choice = (choice * 7 + end) * 2;
-            assert!(rt; bodies(alloc, &mut disk.crashed(before + 1, choice)?) == Ok(0));
+            let choice = choice.wrapping_mul(14).wrapping_add(end * 2);
+            assert!(rt; bodies(alloc, &mut disk.crashed(before.wrapping_add(1), choice)?) == Ok(0));
         }
     }
     Ok(())
@@ -106,7 +111,7 @@ fn a_call_that_fails_in_an_append_leaves_a_journal_that_loads(rt: HostRuntime) -
     assert!(rt; Journal::create(&mut made, 1).is_ok());
     let before = made.calls();
     for call in 0..4u64 {
-        let mut disk = disk(alloc, &[before + call])?;
+        let mut disk = disk(alloc, &[before.wrapping_add(call)])?;
         let Ok(mut journal) = Journal::create(&mut disk, 1) else {
             return Ok(());
         };

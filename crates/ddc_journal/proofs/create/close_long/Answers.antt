@@ -1,11 +1,9 @@
-use Rattle.std.proofs.Common.{◌≡◌, ◌≢◌, ◌⊎◌, ◌+◌, ◌<◌, ◌≤◌, ◌^◌, ◌∷◌, [], ◌++◌, length, List, ℕ, sym, ◌∙◌, ap, subst, arith, rules, inl, inr, refl}
-use Rattle.std.specs.Prelude.{IfSome, Some, false, slice_index, replicate, OnOk}
-use Rattle.ddc_disk.specs.Disk.{Meaning, IsImage, EachSince, MayTear, Torn, IsSure, overwritten}
-use Rattle.ddc_disk.specs.Since.{weaker, then_runs, tears_once, one_call}
-use Rattle.ddc_disk.specs.Told.{at_told, told_file}
-use Rattle.ddc_journal.specs.Journal.{header, is_made, Loads, NotMadeOrEmpty, IsReady}
-use Rattle.ddc_journal.specs.Making.{NotMade, IsClosed, IsBlank}
-use Rattle.ddc_journal.proofs.Making.{short, kept_sure, calm_run, sure_run, sure_after, short_torn, zeros_torn, long_torn, long_closed, not_open, head_torn, tail_torn, blank, gate_torn, gate_ready, KeepsGate}
+use Rattle.std.proofs.Common.{◌≡◌, ◌+◌, sym, ◌∙◌, arith}
+use Rattle.std.specs.Prelude.{slice_index}
+use Rattle.ddc_disk.specs.Since.{then_runs}
+use Rattle.ddc_disk.specs.Told.{at_told}
+use Rattle.ddc_journal.specs.Making.{NotMade}
+use Rattle.ddc_journal.proofs.Making.{kept_sure, calm_run, sure_run, long_torn, long_closed}
 use Rattle.std.specs.Prelude.{EachIndex}
 use Rattle.ddc_journal.proofs.create.close_long.Goals as goal
 

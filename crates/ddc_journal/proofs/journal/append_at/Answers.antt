@@ -1,7 +1,7 @@
-use Rattle.std.proofs.Common.{◌≡◌, ◌+◌, ◌∷◌, [], length, List, ℕ, sym, subst, arith, inl, ◌++◌}
+use Rattle.std.proofs.Common.{◌≡◌, ◌+◌, ◌∷◌, [], length, List, ℕ, sym, subst, arith, ◌++◌}
 use Rattle.std.specs.Prelude.{IfSome}
 use Rattle.ddc_disk.specs.Disk.{EachSince, MayTear, IsSure, overwritten}
-use Rattle.ddc_journal.specs.Journal.{framed, LoadsEither, IsReady}
+use Rattle.ddc_journal.specs.Journal.{IsReady}
 use Rattle.ddc_journal.proofs.Append.{fits, first_each, sure_first, both_each, is_ready}
 use Rattle.ddc_journal.proofs.journal.append_at.Goals as goal
 

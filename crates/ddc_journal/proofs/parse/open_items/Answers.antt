@@ -1,5 +1,4 @@
-use Rattle.std.proofs.Common.{rules, ◌≡◌, ◌≢◌, ◌∙◌, ap, sym, drop, take, ℕ, List, arith, length, length-drop, refl, inl, inr, ◌+◌}
-use Rattle.std.proofs.lemmas.Grind.{common_steps}
+use Rattle.std.proofs.Common.{rules, ◌≡◌, ◌≢◌, ◌∙◌, ap, sym, take, ℕ, arith, length, length-drop, refl, inl, inr}
 use Rattle.std.specs.Prelude.{slice_index}
 use Rattle.ddc_journal.specs.Journal.{magic, version_in, generation_in}
 use Rattle.ddc_journal.proofs.Reading.{made, opens}

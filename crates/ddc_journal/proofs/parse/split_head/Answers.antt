@@ -1,4 +1,4 @@
-use Rattle.std.proofs.Common.{◌≡◌, ◌∙◌, ap, sym, drop, take, ℕ, List}
+use Rattle.std.proofs.Common.{◌∙◌, ap, drop, take, ℕ, List}
 use Rattle.ddc_journal.proofs.Reading.{head_is}
 use Rattle.ddc_journal.proofs.parse.split_head.Goals as goal
 

@@ -1,4 +1,4 @@
-use Rattle.std.proofs.Common.{rules, ◌≡◌, ◌∙◌, ap, sym, drop, take, ℕ, List, arith, length, ◌++◌, take-append-drop}
+use Rattle.std.proofs.Common.{rules, ◌≡◌, ◌∙◌, ap, sym, length, ◌++◌, take-append-drop}
 use Rattle.std.specs.Int.{to_le_bytes, w32}
 use Rattle.ddc_journal.proofs.Reading.{framed_is}
 use Rattle.ddc_journal.proofs.parse.split_item.Goals as goal
