@@ -1,0 +1,30 @@
+use Rattle.std.proofs.Common.{◌≡◌, ◌<◌, ◌^◌, length, List, ℕ, sym, ◌∙◌, ap, subst, arith, rules}
+use Rattle.ddc_disk.specs.Memory.{history}
+use Rattle.ddc_disk.specs.declared.call.What.TheVariants.{Write, Sync, Look}
+use Rattle.ddc_disk.proofs.Calls.{call_order, call_continues, call_cause, done_cause, fault_cause, look_calm, look_reads, sync_calm, sync_reads, sync_durable, write_tears, write_reads, write_bytes, far_order, far_continues, far_calm, far_tears, far_reads, far_cause, same_small}
+use Rattle.ddc_disk.proofs.memory.MemDiskDisk.sync.Goals as goal
+
+pub invariant_of-self : goal.invariant_of-self
+invariant_of-self c =
+    let d = c.args.self.now in
+    let h = history d.log in
+    let new = history c.sync_log.new.log in
+    let same = ap (λ v. v.items) c.sync_log.ensures.bytes in
+    record {
+      in_order = call_order h d.in_order Sync c.sync_log.result new c.sync_log.ensures.after;
+      as_read = same ∙ d.as_read ∙ sym (sync_reads h d.in_order c.sync_log.result new c.sync_log.ensures.after);
+      counted = c.sync_log.ensures.failed d.counted;
+      small = same_small _ _ same d.small;
+    }
+
+pub returns-clause-durable : goal.returns-clause-durable
+returns-clause-durable c = let d = c.args.self.now in sync_durable (history d.log) d.in_order c.sync_log.result (history c.sync_log.new.log) c.sync_log.ensures.after
+
+pub returns-clause-calm : goal.returns-clause-calm
+returns-clause-calm c = let d = c.args.self.now in sync_calm (history d.log) d.in_order c.sync_log.result (history c.sync_log.new.log) c.sync_log.ensures.after
+
+pub returns-clause-time : goal.returns-clause-time
+returns-clause-time c = let d = c.args.self.now in call_continues (history d.log) d.in_order Sync c.sync_log.result (history c.sync_log.new.log) c.sync_log.ensures.after
+
+pub returns-clause-cause : goal.returns-clause-cause
+returns-clause-cause c = let d = c.args.self.now in call_cause (history d.log) d.in_order Sync c.sync_log.result (history c.sync_log.new.log) c.sync_log.ensures.after

@@ -1,0 +1,11 @@
+pub mod Causes
+pub mod Disk
+pub mod Since
+pub mod Told
+pub mod Images
+pub mod Lends
+pub mod Lending
+pub mod Memory
+pub mod MemoryLaws
+pub mod MemDisks
+pub mod Unknown

@@ -1,0 +1,6 @@
+mod Parts
+mod Spelling
+mod Append
+mod Making
+mod Reading
+mod Once

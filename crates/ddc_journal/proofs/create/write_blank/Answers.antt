@@ -1,0 +1,49 @@
+use Rattle.std.proofs.Common.{◌≡◌, length, List, ℕ, sym, ◌∙◌, ap, subst, rules}
+use Rattle.std.specs.Prelude.{IfSome, Some}
+use Rattle.ddc_disk.specs.Disk.{IsImage, MayTear, overwritten}
+use Rattle.ddc_disk.specs.Since.{weaker, then_runs, tears_once}
+use Rattle.ddc_journal.specs.Making.{NotMade}
+use Rattle.ddc_journal.proofs.Making.{not_open, head_torn, tail_torn, blank}
+use Rattle.ddc_journal.proofs.create.write_blank.Goals as goal
+
+pub returns-in_err-write_at-clause-any_moment : goal.returns-in_err-write_at-clause-any_moment
+returns-in_err-write_at-clause-any_moment g c closed =
+    let old = g.D.Disk.meaning c.args.disk.now in
+    let mid = g.D.Disk.meaning c.write_at.new.self in
+    let size : length c.head.result ≡ 20 = search rules in
+    let crash = subst (λ (n : ℕ). (image : List ℕ) → IsImage mid.line image → MayTear 0 n old.line image) size c.write_at.ensures.crash in
+    let first = weaker old.line mid.line (MayTear 0 20 old.line) NotMade (tears_once old.line mid.line 0 20 (g.met.D.Disk.rests c.args.disk.now) crash c.write_at.ensures.time) (λ image torn. not_open old c.args.generation closed image (head_torn old c.args.generation closed image torn)) in
+    first
+
+pub returns-in_err-write_sure-clause-any_moment : goal.returns-in_err-write_sure-clause-any_moment
+returns-in_err-write_sure-clause-any_moment g c closed =
+    let old = g.D.Disk.meaning c.args.disk.now in
+    let mid = g.D.Disk.meaning c.write_at.new.self in
+    let size : length c.head.result ≡ 20 = search rules in
+    let crash = subst (λ (n : ℕ). (image : List ℕ) → IsImage mid.line image → MayTear 0 n old.line image) size c.write_at.ensures.crash in
+    let first = weaker old.line mid.line (MayTear 0 20 old.line) NotMade (tears_once old.line mid.line 0 20 (g.met.D.Disk.rests c.args.disk.now) crash c.write_at.ensures.time) (λ image torn. not_open old c.args.generation closed image (head_torn old c.args.generation closed image torn)) in
+    let new = g.D.Disk.meaning c.write_sure.new.disk in
+    let second = weaker mid.line new.line (MayTear 21 1 mid.line) NotMade c.write_sure.ensures.any_moment
+    (λ image torn. not_open old c.args.generation closed image (tail_torn old c.args.generation closed torn.0 image (head_torn old c.args.generation closed torn.0 (crash torn.0 torn.1)) torn.2)) in
+    then_runs old.line mid.line new.line NotMade NotMade first second (λ image is. is)
+
+pub returns-clause-any_moment : goal.returns-clause-any_moment
+returns-clause-any_moment g c closed =
+    let old = g.D.Disk.meaning c.args.disk.now in
+    let mid = g.D.Disk.meaning c.write_at.new.self in
+    let size : length c.head.result ≡ 20 = search rules in
+    let crash = subst (λ (n : ℕ). (image : List ℕ) → IsImage mid.line image → MayTear 0 n old.line image) size c.write_at.ensures.crash in
+    let first = weaker old.line mid.line (MayTear 0 20 old.line) NotMade (tears_once old.line mid.line 0 20 (g.met.D.Disk.rests c.args.disk.now) crash c.write_at.ensures.time) (λ image torn. not_open old c.args.generation closed image (head_torn old c.args.generation closed image torn)) in
+    let new = g.D.Disk.meaning c.write_sure.new.disk in
+    let second = weaker mid.line new.line (MayTear 21 1 mid.line) NotMade c.write_sure.ensures.any_moment
+    (λ image torn. not_open old c.args.generation closed image (tail_torn old c.args.generation closed torn.0 image (head_torn old c.args.generation closed torn.0 (crash torn.0 torn.1)) torn.2)) in
+    then_runs old.line mid.line new.line NotMade NotMade first second (λ image is. is)
+
+pub returns-clause-blank : goal.returns-clause-blank
+returns-clause-blank g c closed =
+    let old = g.D.Disk.meaning c.args.disk.now in
+    let mid = g.D.Disk.meaning c.write_at.new.self in
+    let new = g.D.Disk.meaning c.write_sure.new.disk in
+    let size : length c.head.result ≡ 20 = search rules in
+    let written = subst (λ (l : List ℕ). IfSome old.held (λ f. mid.held ≡ Some (overwritten f 0 l))) c.head.ensures c.in_ok-write_at.ensures.written in
+    blank old c.args.generation closed mid new written c.in_ok-write_sure.ensures.durable (sym (ap length c.head.ensures) ∙ size)

@@ -1,0 +1,116 @@
+//! How an empty journal is made.
+
+ghost use Rattle.std.specs.Prelude.{◌≡◌, ◌⊎◌, ◌<◌, ◌^◌, [], ℕ, List, false, length, IfErr, IfOk, IfSome, OnOk, ◌≤◌};
+ghost use Rattle.ddc_disk.specs.Causes.{HasCause};
+ghost use Rattle.ddc_disk.specs.Disk.{EachSince, IsImage, IsSure};
+ghost use Rattle.ddc_journal.specs.Journal.{header, is_made, IsReady, NotMadeOrEmpty};
+ghost use Rattle.ddc_journal.specs.Making.{NotMade, IsClosed, IsBlank};
+ghost use Rattle.ddc_journal.specs.declared.fault.JournalFault.TheVariants.{DiskFailed};
+
+use crate::{Journal, JournalFault};
+use ddc_disk::{Disk, write_sure};
+use ddc_names::Failed;
+
+// The place of the file's own gate.
+const GATE: u64 = 20;
+
+// The first 20 bytes of a journal.
+fn head(generation: u64) -> [u8; 20]
+    ensures { result ≡ header generation }
+{
+    let [a, b, c, d, e, f, g, h] = generation.to_le_bytes();
+    [
+        68, 68, 67, 74, 76, 79, 71, 10, 0, 0, 0, 0, a, b, c, d, e, f, g, h,
+    ]
+}
+
+// Closes a file that ends before its gate: first what stands before the gate is sure, and names no
+// generation.
+fn close_short<D: Disk>(disk: &mut D) -> Result<(), Failed>
+    ensures any_moment { (file : List ℕ) → IsSure (D.meaning disk.old) file → length file < 21 → EachSince (D.meaning disk.old).line (D.meaning disk.new).line NotMade }
+    ensures closed { OnOk result ((file : List ℕ) → IsSure (D.meaning disk.old) file → length file < 21 → IsClosed (D.meaning disk.new)) }
+    ensures past { EachSince (D.meaning disk.old).line (D.meaning disk.new).line (λ _. Unit {0}) }
+    ensures cause { HasCause (D.meaning disk.old).faults (D.meaning disk.new).faults result }
+{
+    write_sure(disk, 0, &[0; 20])?;
+    write_sure(disk, GATE, &[0])?;
+    Ok(())
+}
+
+// Closes a file that has a gate, where the gate is open.
+fn close_long<D: Disk>(disk: &mut D) -> Result<(), Failed>
+    ensures any_moment { (file : List ℕ) → IsSure (D.meaning disk.old) file → 21 ≤ length file → is_made file ≡ false → EachSince (D.meaning disk.old).line (D.meaning disk.new).line NotMade }
+    ensures closed { OnOk result ((file : List ℕ) → IsSure (D.meaning disk.old) file → 21 ≤ length file → IsClosed (D.meaning disk.new)) }
+    ensures past { EachSince (D.meaning disk.old).line (D.meaning disk.new).line (λ _. Unit {0}) }
+    ensures cause { HasCause (D.meaning disk.old).faults (D.meaning disk.new).faults result }
+{
+    let mut gate = [0];
+    disk.read(GATE, &mut gate)?;
+    if gate[0] == 1 {
+        write_sure(disk, GATE, &[0])?;
+    }
+    Ok(())
+}
+
+// Closes a file, so that it isn't made.
+fn close<D: Disk>(disk: &mut D) -> Result<(), Failed>
+    ensures any_moment { (file : List ℕ) → IsSure (D.meaning disk.old) file → is_made file ≡ false → EachSince (D.meaning disk.old).line (D.meaning disk.new).line NotMade }
+    ensures closed { OnOk result ((file : List ℕ) → IsSure (D.meaning disk.old) file → IsClosed (D.meaning disk.new)) }
+    ensures past { EachSince (D.meaning disk.old).line (D.meaning disk.new).line (λ _. Unit {0}) }
+    ensures cause { HasCause (D.meaning disk.old).faults (D.meaning disk.new).faults result }
+{
+    if disk.len()? < GATE + 1 {
+        close_short(disk)?;
+    } else {
+        close_long(disk)?;
+    }
+    Ok(())
+}
+
+// Writes all of an empty journal but its gate.
+fn write_blank<D: Disk>(disk: &mut D, generation: u64) -> Result<(), Failed>
+    ensures any_moment { IsClosed (D.meaning disk.old) → EachSince (D.meaning disk.old).line (D.meaning disk.new).line NotMade }
+    ensures blank { OnOk result (IsClosed (D.meaning disk.old) → IsBlank (D.meaning disk.new) generation) }
+    ensures past { EachSince (D.meaning disk.old).line (D.meaning disk.new).line (λ _. Unit {0}) }
+    ensures cause { HasCause (D.meaning disk.old).faults (D.meaning disk.new).faults result }
+{
+    disk.write_at(0, &head(generation))?;
+    write_sure(disk, GATE + 1, &[0])?;
+    Ok(())
+}
+
+// Makes an empty journal.
+fn make<D: Disk>(disk: &mut D, generation: u64) -> Result<(), Failed>
+    ensures any_moment { 0 < generation → generation < 2 ^ 64 → IfSome (D.meaning disk.old).held (λ file. is_made file ≡ false → EachSince (D.meaning disk.old).line (D.meaning disk.new).line (λ image. IsImage (D.meaning disk.old).line image ⊎ NotMadeOrEmpty generation image)) }
+    ensures ready { OnOk result (0 < generation → generation < 2 ^ 64 → IfSome (D.meaning disk.old).held (λ _. IsReady (D.meaning disk.new) generation [] 21)) }
+    ensures past { EachSince (D.meaning disk.old).line (D.meaning disk.new).line (λ _. Unit {0}) }
+    ensures cause { HasCause (D.meaning disk.old).faults (D.meaning disk.new).faults result }
+{
+    disk.sync()?;
+    close(disk)?;
+    write_blank(disk, generation)?;
+    write_sure(disk, GATE, &[1])?;
+    Ok(())
+}
+
+impl Journal {
+    /// Makes an empty journal, over whatever the file held. The generation is at least 1.
+    ///
+    /// # Errors
+    ///
+    /// `DiskFailed` alone. The file may then not be made, or be an empty journal.
+    pub fn create<D: Disk>(disk: &mut D, generation: u64) -> Result<Journal, JournalFault>
+        requires { 0 < generation }
+        ensures any_moment { IfSome (D.meaning disk.old).held (λ file. is_made file ≡ false → EachSince (D.meaning disk.old).line (D.meaning disk.new).line (λ image. IsImage (D.meaning disk.old).line image ⊎ NotMadeOrEmpty generation image)) }
+        ensures ready { OnOk result (IfSome (D.meaning disk.old).held (λ _. IsReady (D.meaning disk.new) generation [] 21)) }
+        ensures place { IfOk result (λ journal. journal ≡ 21) }
+        ensures past { EachSince (D.meaning disk.old).line (D.meaning disk.new).line (λ _. Unit {0}) }
+        ensures failed { IfErr result (λ fault. fault ≡ DiskFailed) }
+        ensures cause { HasCause (D.meaning disk.old).faults (D.meaning disk.new).faults result }
+    {
+        if make(disk, generation).is_err() {
+            return Err(JournalFault::DiskFailed);
+        }
+        Ok(Journal::at(GATE + 1))
+    }
+}

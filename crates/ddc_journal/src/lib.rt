@@ -1,0 +1,21 @@
+//! A journal on one disk: bodies that are appended one by one, each of which a crash leaves whole or
+//! not at all.
+//!
+//! The file begins with 20 bytes of head and a gate. An item is a gate, a length and a body, and
+//! behind the last item stands a closed gate. A gate is opened alone, once what lies behind it is sure.
+#![tactic(auto)]
+
+mod create;
+mod fault;
+mod framed;
+mod journal;
+mod laws;
+mod load;
+mod parse;
+#[cfg(test)]
+mod tests;
+
+pub use fault::JournalFault;
+pub use framed::Framed;
+pub use journal::Journal;
+pub use laws::one_reading;
