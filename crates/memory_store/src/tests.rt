@@ -32,293 +32,312 @@ const OUTER: IoHash = IoHash([
     0xc8, 0x3e, 0x92, 0xab,
 ]);
 
-pub(crate) fn checked(alloc: Global, bytes: &[u8]) -> Result<Checked, Fail> {
+// Of the object without fields.
+const EMPTY: IoHash = IoHash([
+    0xcd, 0x60, 0xd7, 0x52, 0x82, 0xba, 0xe1, 0xf9, 0x75, 0x4e, 0x8c, 0xbc, 0x75, 0x90, 0xd8, 0xb3,
+    0xed, 0x2f, 0x4c, 0x93,
+]);
+
+const TWICE_OBJECT: &[u8] =
+    b"\x02*\x0f\x17v/\xdd\xd9i\xa4S\x92]eqz\xc3\xee\xa2\x13 \xb6k\x0f\x17v/\xdd\xd9i\xa4S\x92]eqz\xc3\xee\xa2\x13 \xb6k";
+
+const THREE_TIMES: &[u8] =
+    b"\x02?\x0f\x17v/\xdd\xd9i\xa4S\x92]eqz\xc3\xee\xa2\x13 \xb6k\x0f\x17v/\xdd\xd9i\xa4S\x92]eqz\xc3\xee\xa2\x13 \xb6k\x0f\x17v/\xdd\xd9i\xa4S\x92]eqz\xc3\xee\xa2\x13 \xb6k";
+
+const INNER_OBJECT: &[u8] = b"\x02\x15\x0f\x17v/\xdd\xd9i\xa4S\x92]eqz\xc3\xee\xa2\x13 \xb6k";
+
+const OUTER_OBJECT: &[u8] = b"\x02\x15\x0e\x8d\xe1\xd1\xf7\xa0.\x96]\x9fL\xfa\xdd\x9e*n\xe6f\x90r-";
+
+const TIED_OBJECT: &[u8] = b"\x02\x15\x0e\x17v/\xdd\xd9i\xa4S\x92]eqz\xc3\xee\xa2\x13 \xb6k";
+
+const EMPTY_OBJECT: &[u8] = b"\x02\x00";
+
+// A command; a reference is named by the byte of its key.
+#[derive(Clone, Copy)]
+enum Call {
+    SetSpace,
+    Upload(&'static [u8]),
+    Put(u8, &'static [u8]),
+    Finalise(u8, IoHash),
+    Get(u8),
+    Fetch(IoHash),
+    // The hour at which the blob was stored or named last.
+    Hour(IoHash),
+}
+
+// What it answers.
+#[derive(Clone, Copy)]
+enum Told {
+    Done,
+    Needs(&'static [IoHash]),
+    Object(IoHash),
+    Bytes(&'static [u8]),
+    At(u32),
+    Fault(StoreFault),
+}
+
+// A command in a namespace at an hour, and its answer.
+#[derive(Clone, Copy)]
+struct Step {
+    space: &'static str,
+    hour: u32,
+    call: Call,
+    told: Told,
+}
+
+fn at(hour: u32, call: Call, told: Told) -> Step {
+    Step {
+        space: "game",
+        hour,
+        call,
+        told,
+    }
+}
+
+fn elsewhere(call: Call) -> Step {
+    Step {
+        space: "other",
+        hour: 7,
+        call,
+        told: Told::Fault(StoreFault::UnknownSpace),
+    }
+}
+
+fn checked(alloc: Global, bytes: &[u8]) -> Result<Checked, Fail> {
     let mut intake = Intake::new(alloc, bytes.len() as u64);
     intake.take(bytes)?;
     Ok(Checked::new(alloc, intake.finish())?)
 }
 
-// An object of attachments, each a type byte and a hash.
-pub(crate) fn object(alloc: Global, links: &[(u8, IoHash)]) -> Result<Checked, Fail> {
-    let mut fields = Vec::new(alloc);
-    let mut size: u8 = 0;
-    for (kind, hash) in links {
-        fields.push(*kind)?;
-        fields.extend_from_slice(&hash.0)?;
-        size = size.wrapping_add(21);
-    }
-    let mut bytes = Vec::new(alloc);
-    bytes.push(0x02)?;
-    bytes.push(size)?;
-    bytes.extend_from_slice(&fields)?;
-    checked(alloc, &bytes)
-}
-
-fn upload(
-    alloc: Global,
-    store: &mut Store,
-    space: Namespace,
-    blob: Checked,
-    hour: u32,
-) -> Result<(), StoreFault> {
-    if blob.whole().bytes().len() <= 67_108_864 {
-        store.upload(alloc, space, blob, hour)
-    } else {
-        Err(StoreFault::NotFound)
-    }
-}
-
-fn finalise(
-    alloc: Global,
-    store: &mut Store,
-    name: &RefName,
-    hash: IoHash,
-    hour: u32,
-) -> Result<Rows<IoHash>, StoreFault> {
-    store.finalise(alloc, name, hash, hour)
-}
-
-fn get_ref(
-    alloc: Global,
-    store: &mut Store,
-    name: &RefName,
-    hour: u32,
-) -> Result<IoHash, StoreFault> {
-    store.get_ref(alloc, name, hour)
-}
-
-fn set_space(alloc: Global, store: &mut Store, space: Namespace) -> Result<(), StoreFault> {
-    store.set_space(alloc, space, 24, 4)
-}
-
-fn length_of(store: &Store, space: &Namespace, hash: &IoHash) -> Result<usize, StoreFault> {
-    match store.fetch(space, hash) {
-        Ok(bytes) => Ok(bytes.len()),
-        Err(fault) => Err(fault),
-    }
-}
-
-// The blob's hour, and how many blobs there are.
-fn look(store: &Store, space: &Namespace, hash: &IoHash) -> (Option<u32>, u64) {
-    let hour = match store.index().blob(space, hash) {
-        Some(row) => Some(row.at),
-        None => None,
-    };
-    (hour, store.index().blob_count())
-}
-
-fn put(
-    alloc: Global,
-    store: &mut Store,
-    name: RefName,
-    object: Checked,
-    hour: u32,
-) -> Result<Rows<IoHash>, StoreFault> {
-    if object.is_object() && object.whole().bytes().len() <= 67_108_864 {
-        store.put(alloc, name, object, hour)
-    } else {
-        Err(StoreFault::NotFound)
-    }
-}
-
-fn game() -> Result<Namespace, Fail> {
-    Ok(Namespace::parse("game")?)
-}
-
-pub(crate) fn name_of(space: Namespace, key: u8) -> Result<RefName, Fail> {
+fn name_of(space: Namespace, key: u8) -> Result<RefName, Fail> {
+    let bucket = Bucket::parse("maps")?;
+    let key = RefKey([key; 20]);
     Ok(RefName {
         space,
-        spot: RefSpot {
-            bucket: Bucket::parse("maps")?,
-            key: RefKey([key; 20]),
-        },
+        spot: RefSpot { bucket, key },
     })
 }
 
-// With the one namespace.
-fn opened(alloc: Global, mut store: Store) -> Result<Store, Fail> {
-    set_space(alloc, &mut store, game()?)?;
-    Ok(store)
-}
-
-fn is_list(rows: &Result<Rows<IoHash>, StoreFault>, hashes: &[IoHash]) -> bool {
-    match rows {
-        Ok(rows) => rows.as_slice() == hashes,
-        Err(_) => false,
+fn is_fault(fault: StoreFault, told: Told) -> bool {
+    match told {
+        Told::Fault(wanted) => fault == wanted,
+        _ => false,
     }
 }
 
-fn fault_of<T>(answer: &Result<T, StoreFault>) -> Option<StoreFault> {
+fn is_done(answer: Result<(), StoreFault>, told: Told) -> bool {
     match answer {
-        Ok(_) => None,
-        Err(fault) => Some(*fault),
+        Ok(()) => matches!(told, Told::Done),
+        Err(fault) => is_fault(fault, told),
     }
+}
+
+fn is_list(answer: Result<Rows<IoHash>, StoreFault>, told: Told) -> bool {
+    match answer {
+        Ok(rows) => match told {
+            Told::Needs(hashes) => rows.as_slice() == hashes,
+            _ => false,
+        },
+        Err(fault) => is_fault(fault, told),
+    }
+}
+
+fn is_object(answer: Result<IoHash, StoreFault>, told: Told) -> bool {
+    match answer {
+        Ok(hash) => match told {
+            Told::Object(wanted) => hash == wanted,
+            _ => false,
+        },
+        Err(fault) => is_fault(fault, told),
+    }
+}
+
+fn is_bytes(answer: Result<&[u8], StoreFault>, told: Told) -> bool {
+    match answer {
+        Ok(bytes) => match told {
+            Told::Bytes(wanted) => bytes == wanted,
+            _ => false,
+        },
+        Err(fault) => is_fault(fault, told),
+    }
+}
+
+fn is_at(store: &Store, space: &Namespace, hash: &IoHash, told: Told) -> bool {
+    match store.index().blob(space, hash) {
+        Some(row) => match told {
+            Told::At(hour) => row.at == hour,
+            _ => false,
+        },
+        None => false,
+    }
+}
+
+fn uploads(
+    alloc: Global,
+    store: &mut Store,
+    space: Namespace,
+    bytes: &[u8],
+    step: &Step,
+) -> Result<bool, Fail> {
+    let blob = checked(alloc, bytes)?;
+    if blob.whole().bytes().len() > 67_108_864 {
+        return Ok(false);
+    }
+    Ok(is_done(store.upload(alloc, space, blob, step.hour), step.told))
+}
+
+fn puts(
+    alloc: Global,
+    store: &mut Store,
+    name: RefName,
+    bytes: &[u8],
+    step: &Step,
+) -> Result<bool, Fail> {
+    let object = checked(alloc, bytes)?;
+    if !object.is_object() || object.whole().bytes().len() > 67_108_864 {
+        return Ok(false);
+    }
+    Ok(is_list(store.put(alloc, name, object, step.hour), step.told))
+}
+
+// Whether the command answers so.
+fn answers(alloc: Global, store: &mut Store, step: &Step) -> Result<bool, Fail> {
+    let space = Namespace::parse(step.space)?;
+    match step.call {
+        Call::SetSpace => Ok(is_done(store.set_space(alloc, space, 24, 4), step.told)),
+        Call::Upload(bytes) => uploads(alloc, store, space, bytes, step),
+        Call::Put(key, bytes) => puts(alloc, store, name_of(space, key)?, bytes, step),
+        Call::Finalise(key, hash) => {
+            let name = name_of(space, key)?;
+            Ok(is_list(store.finalise(alloc, &name, hash, step.hour), step.told))
+        }
+        Call::Get(key) => {
+            let name = name_of(space, key)?;
+            Ok(is_object(store.get_ref(alloc, &name, step.hour), step.told))
+        }
+        Call::Fetch(hash) => Ok(is_bytes(store.fetch(&space, &hash), step.told)),
+        Call::Hour(hash) => Ok(is_at(store, &space, &hash, step.told)),
+    }
+}
+
+// The place of the first step that answers otherwise, from an empty store with the one namespace on.
+fn first_wrong(alloc: Global, mut store: Store, steps: &[Step]) -> Result<Option<usize>, Fail> {
+    let made = answers(alloc, &mut store, &at(7, Call::SetSpace, Told::Done))?;
+    for (place, step) in steps.iter().enumerate() {
+        if !answers(alloc, &mut store, step)? {
+            return Ok(Some(place));
+        }
+    }
+    Ok(if made { None } else { Some(0) })
 }
 
 #[test]
 fn a_put_lists_what_is_missing_and_is_finalised_once_it_is_there(
     rt: HostRuntime,
 ) -> Result<(), Fail> {
-    let mut store = opened(rt.alloc(), Store::new(rt.alloc(), Limits::standard()))?;
-    let name = name_of(game()?, 1)?;
-    let first = put(
+    let steps = [
+        at(7, Call::Put(1, TWICE_OBJECT), Told::Needs(&[LEAF])),
+        at(7, Call::Get(1), Told::Fault(StoreFault::NotFinalised)),
+        at(7, Call::Finalise(1, TWICE), Told::Needs(&[LEAF])),
+        at(8, Call::Upload(b"a"), Told::Done),
+        at(8, Call::Get(1), Told::Fault(StoreFault::NotFinalised)),
+        at(8, Call::Finalise(1, TWICE), Told::Needs(&[])),
+        at(8, Call::Finalise(1, TWICE), Told::Needs(&[])),
+        at(9, Call::Get(1), Told::Object(TWICE)),
+        at(9, Call::Fetch(LEAF), Told::Bytes(b"a")),
+        at(9, Call::Fetch(TWICE), Told::Bytes(TWICE_OBJECT)),
+    ];
+    let wrong = first_wrong(
         rt.alloc(),
-        &mut store,
-        name,
-        object(rt.alloc(), &[(0x0f, LEAF), (0x0f, LEAF)])?,
-        7,
-    );
-    assert!(rt; is_list(&first, &[LEAF]));
-    assert_eq!(rt;
-        get_ref(rt.alloc(), &mut store, &name, 7),
-        Err(StoreFault::NotFinalised)
-    );
-    assert!(rt; is_list(&finalise(rt.alloc(), &mut store, &name, TWICE, 7), &[LEAF]));
-    upload(
-        rt.alloc(),
-        &mut store,
-        game()?,
-        checked(rt.alloc(), b"a")?,
-        8,
+        Store::new(rt.alloc(), Limits::standard()),
+        &steps,
     )?;
-    assert_eq!(rt;
-        get_ref(rt.alloc(), &mut store, &name, 8),
-        Err(StoreFault::NotFinalised)
-    );
-    assert!(rt; is_list(&finalise(rt.alloc(), &mut store, &name, TWICE, 8), &[]));
-    assert!(rt; is_list(&finalise(rt.alloc(), &mut store, &name, TWICE, 8), &[]));
-    assert_eq!(rt; get_ref(rt.alloc(), &mut store, &name, 9), Ok(TWICE));
-    assert_eq!(rt; length_of(&store, &game()?, &LEAF), Ok(1));
-    assert_eq!(rt; length_of(&store, &game()?, &TWICE), Ok(44));
+    assert_eq!(rt; wrong, None);
     Ok(())
 }
 
 #[test]
 fn an_inner_object_is_missing_before_what_it_links_to(rt: HostRuntime) -> Result<(), Fail> {
-    let mut store = opened(rt.alloc(), Store::new(rt.alloc(), Limits::standard()))?;
-    let name = name_of(game()?, 1)?;
-    let first = put(
+    let steps = [
+        at(7, Call::Put(1, OUTER_OBJECT), Told::Needs(&[INNER])),
+        at(7, Call::Upload(INNER_OBJECT), Told::Done),
+        at(7, Call::Finalise(1, OUTER), Told::Needs(&[LEAF])),
+        at(7, Call::Upload(b"a"), Told::Done),
+        at(7, Call::Finalise(1, OUTER), Told::Needs(&[])),
+        at(7, Call::Get(1), Told::Object(OUTER)),
+    ];
+    let wrong = first_wrong(
         rt.alloc(),
-        &mut store,
-        name,
-        object(rt.alloc(), &[(0x0e, INNER)])?,
-        7,
-    );
-    assert!(rt; is_list(&first, &[INNER]));
-    upload(
-        rt.alloc(),
-        &mut store,
-        game()?,
-        object(rt.alloc(), &[(0x0f, LEAF)])?,
-        7,
+        Store::new(rt.alloc(), Limits::standard()),
+        &steps,
     )?;
-    assert!(rt; is_list(&finalise(rt.alloc(), &mut store, &name, OUTER, 7), &[LEAF]));
-    upload(
-        rt.alloc(),
-        &mut store,
-        game()?,
-        checked(rt.alloc(), b"a")?,
-        7,
-    )?;
-    assert!(rt; is_list(&finalise(rt.alloc(), &mut store, &name, OUTER, 7), &[]));
-    assert_eq!(rt; get_ref(rt.alloc(), &mut store, &name, 7), Ok(OUTER));
+    assert_eq!(rt; wrong, None);
     Ok(())
 }
 
 #[test]
 fn an_attached_object_that_is_none_needs_nothing_further(rt: HostRuntime) -> Result<(), Fail> {
-    let mut store = opened(rt.alloc(), Store::new(rt.alloc(), Limits::standard()))?;
-    let name = name_of(game()?, 1)?;
-    upload(
+    let steps = [
+        at(7, Call::Upload(b"a"), Told::Done),
+        at(7, Call::Put(1, TIED_OBJECT), Told::Needs(&[])),
+    ];
+    let wrong = first_wrong(
         rt.alloc(),
-        &mut store,
-        game()?,
-        checked(rt.alloc(), b"a")?,
-        7,
+        Store::new(rt.alloc(), Limits::standard()),
+        &steps,
     )?;
-    let first = put(
-        rt.alloc(),
-        &mut store,
-        name,
-        object(rt.alloc(), &[(0x0e, LEAF)])?,
-        7,
-    );
-    assert!(rt; is_list(&first, &[]));
-    assert!(rt; get_ref(rt.alloc(), &mut store, &name, 7).is_ok());
+    assert_eq!(rt; wrong, None);
     Ok(())
 }
 
 #[test]
 fn the_old_object_is_served_until_the_new_one_is_final(rt: HostRuntime) -> Result<(), Fail> {
-    let mut store = opened(rt.alloc(), Store::new(rt.alloc(), Limits::standard()))?;
-    let name = name_of(game()?, 1)?;
-    let old = checked(rt.alloc(), b"\x02\x00")?;
-    let old_hash = old.whole().hash();
-    assert!(rt; is_list(&put(rt.alloc(), &mut store, name, old, 7), &[]));
-    let first = put(
+    let steps = [
+        at(7, Call::Put(1, EMPTY_OBJECT), Told::Needs(&[])),
+        at(7, Call::Put(1, INNER_OBJECT), Told::Needs(&[LEAF])),
+        at(7, Call::Get(1), Told::Object(EMPTY)),
+        at(7, Call::Upload(b"a"), Told::Done),
+        at(7, Call::Get(1), Told::Object(EMPTY)),
+        at(7, Call::Finalise(1, INNER), Told::Needs(&[])),
+        at(7, Call::Get(1), Told::Object(INNER)),
+    ];
+    let wrong = first_wrong(
         rt.alloc(),
-        &mut store,
-        name,
-        object(rt.alloc(), &[(0x0f, LEAF)])?,
-        7,
-    );
-    assert!(rt; is_list(&first, &[LEAF]));
-    assert_eq!(rt; get_ref(rt.alloc(), &mut store, &name, 7), Ok(old_hash));
-    upload(
-        rt.alloc(),
-        &mut store,
-        game()?,
-        checked(rt.alloc(), b"a")?,
-        7,
+        Store::new(rt.alloc(), Limits::standard()),
+        &steps,
     )?;
-    assert_eq!(rt; get_ref(rt.alloc(), &mut store, &name, 7), Ok(old_hash));
-    assert!(rt; is_list(&finalise(rt.alloc(), &mut store, &name, INNER, 7), &[]));
-    assert_eq!(rt; get_ref(rt.alloc(), &mut store, &name, 7), Ok(INNER));
+    assert_eq!(rt; wrong, None);
     Ok(())
 }
 
 #[test]
 fn refusals_say_what_is_not_there(rt: HostRuntime) -> Result<(), Fail> {
-    let mut store = opened(rt.alloc(), Store::new(rt.alloc(), Limits::standard()))?;
-    let other = Namespace::parse("other")?;
-    let name = name_of(game()?, 1)?;
-    let elsewhere = name_of(other, 1)?;
-    let unknown = Some(StoreFault::UnknownSpace);
-    let upload = upload(rt.alloc(), &mut store, other, checked(rt.alloc(), b"a")?, 7);
-    assert_eq!(rt; fault_of(&upload), unknown);
-    let first = put(
+    let steps = [
+        elsewhere(Call::Upload(b"a")),
+        elsewhere(Call::Put(1, EMPTY_OBJECT)),
+        elsewhere(Call::Finalise(1, LEAF)),
+        elsewhere(Call::Get(1)),
+        elsewhere(Call::Fetch(LEAF)),
+        at(
+            7,
+            Call::Finalise(1, LEAF),
+            Told::Fault(StoreFault::NotFound),
+        ),
+        at(7, Call::Get(1), Told::Fault(StoreFault::NotFound)),
+        at(7, Call::Fetch(LEAF), Told::Fault(StoreFault::NotFound)),
+        at(7, Call::Put(1, EMPTY_OBJECT), Told::Needs(&[])),
+        at(
+            7,
+            Call::Finalise(1, LEAF),
+            Told::Fault(StoreFault::NotPending),
+        ),
+    ];
+    let wrong = first_wrong(
         rt.alloc(),
-        &mut store,
-        elsewhere,
-        checked(rt.alloc(), b"\x02\x00")?,
-        7,
-    );
-    assert_eq!(rt; fault_of(&first), unknown);
-    assert_eq!(rt;
-        fault_of(&finalise(rt.alloc(), &mut store, &elsewhere, LEAF, 7)),
-        unknown
-    );
-    assert_eq!(rt;
-        fault_of(&get_ref(rt.alloc(), &mut store, &elsewhere, 7)),
-        unknown
-    );
-    assert_eq!(rt; fault_of(&length_of(&store, &other, &LEAF)), unknown);
-    let gone = Some(StoreFault::NotFound);
-    assert_eq!(rt;
-        fault_of(&finalise(rt.alloc(), &mut store, &name, LEAF, 7)),
-        gone
-    );
-    assert_eq!(rt; fault_of(&get_ref(rt.alloc(), &mut store, &name, 7)), gone);
-    assert_eq!(rt; fault_of(&length_of(&store, &game()?, &LEAF)), gone);
-    put(
-        rt.alloc(),
-        &mut store,
-        name,
-        checked(rt.alloc(), b"\x02\x00")?,
-        7,
+        Store::new(rt.alloc(), Limits::standard()),
+        &steps,
     )?;
-    let another = finalise(rt.alloc(), &mut store, &name, LEAF, 7);
-    assert_eq!(rt; fault_of(&another), Some(StoreFault::NotPending));
+    assert_eq!(rt; wrong, None);
     Ok(())
 }
 
@@ -331,68 +350,66 @@ fn limits_are_reached_and_not_passed(rt: HostRuntime) -> Result<(), Fail> {
         links: 2,
         ..Limits::standard()
     };
-    let mut store = opened(rt.alloc(), Store::new(rt.alloc(), limits))?;
-    let full = |what, limit| Some(StoreFault::Full { what, limit });
-    let second = set_space(rt.alloc(), &mut store, Namespace::parse("other")?);
-    assert_eq!(rt; fault_of(&second), full(What::Spaces, 1));
-    assert_eq!(rt; set_space(rt.alloc(), &mut store, game()?), Ok(()));
-    let three = object(rt.alloc(), &[(0x0f, LEAF), (0x0f, LEAF), (0x0f, LEAF)])?;
-    assert_eq!(rt;
-        fault_of(&upload(rt.alloc(), &mut store, game()?, three, 7)),
-        full(What::Links, 2)
-    );
-    let name = name_of(game()?, 1)?;
-    let two = object(rt.alloc(), &[(0x0f, LEAF), (0x0f, LEAF)])?;
-    assert!(rt; is_list(&put(rt.alloc(), &mut store, name, two, 7), &[LEAF]));
-    let again = object(rt.alloc(), &[(0x0f, LEAF), (0x0f, LEAF)])?;
-    let other = put(rt.alloc(), &mut store, name_of(game()?, 2)?, again, 7);
-    assert_eq!(rt; fault_of(&other), full(What::Refs, 1));
-    assert_eq!(rt;
-        upload(
-            rt.alloc(),
-            &mut store,
-            game()?,
-            checked(rt.alloc(), b"a")?,
-            7
+    let steps = [
+        Step {
+            space: "other",
+            ..at(
+                7,
+                Call::SetSpace,
+                Told::Fault(StoreFault::Full {
+                    what: What::Spaces,
+                    limit: 1,
+                }),
+            )
+        },
+        at(7, Call::SetSpace, Told::Done),
+        at(
+            7,
+            Call::Upload(THREE_TIMES),
+            Told::Fault(StoreFault::Full {
+                what: What::Links,
+                limit: 2,
+            }),
         ),
-        Ok(())
-    );
-    let third = upload(
-        rt.alloc(),
-        &mut store,
-        game()?,
-        checked(rt.alloc(), b"b")?,
-        7,
-    );
-    assert_eq!(rt; fault_of(&third), full(What::Blobs, 2));
-    assert_eq!(rt; look(&store, &game()?, &LEAF), (Some(7), 2));
+        at(7, Call::Put(1, TWICE_OBJECT), Told::Needs(&[LEAF])),
+        at(
+            7,
+            Call::Put(2, TWICE_OBJECT),
+            Told::Fault(StoreFault::Full {
+                what: What::Refs,
+                limit: 1,
+            }),
+        ),
+        at(7, Call::Upload(b"a"), Told::Done),
+        at(
+            7,
+            Call::Upload(b"b"),
+            Told::Fault(StoreFault::Full {
+                what: What::Blobs,
+                limit: 2,
+            }),
+        ),
+        at(7, Call::Upload(b"a"), Told::Done),
+        at(7, Call::Hour(LEAF), Told::At(7)),
+    ];
+    let wrong = first_wrong(rt.alloc(), Store::new(rt.alloc(), limits), &steps)?;
+    assert_eq!(rt; wrong, None);
     Ok(())
 }
 
 #[test]
 fn a_blob_that_is_there_is_pinned_anew(rt: HostRuntime) -> Result<(), Fail> {
-    let mut store = opened(rt.alloc(), Store::new(rt.alloc(), Limits::standard()))?;
-    upload(
+    let steps = [
+        at(7, Call::Upload(b"a"), Told::Done),
+        at(9, Call::Upload(b"a"), Told::Done),
+        at(8, Call::Upload(b"a"), Told::Done),
+        at(9, Call::Hour(LEAF), Told::At(9)),
+    ];
+    let wrong = first_wrong(
         rt.alloc(),
-        &mut store,
-        game()?,
-        checked(rt.alloc(), b"a")?,
-        7,
+        Store::new(rt.alloc(), Limits::standard()),
+        &steps,
     )?;
-    upload(
-        rt.alloc(),
-        &mut store,
-        game()?,
-        checked(rt.alloc(), b"a")?,
-        9,
-    )?;
-    upload(
-        rt.alloc(),
-        &mut store,
-        game()?,
-        checked(rt.alloc(), b"a")?,
-        8,
-    )?;
-    assert_eq!(rt; look(&store, &game()?, &LEAF), (Some(9), 1));
+    assert_eq!(rt; wrong, None);
     Ok(())
 }
