@@ -218,97 +218,86 @@ fn a_put_leaves_what_is_finalised_until_its_object_is(rt: HostRuntime) -> Result
 }
 
 #[test]
-fn an_entry_that_breaks_a_rule_does_not_fit(rt: HostRuntime) -> Result<(), Fail> {
-    let mut index = index_with_blob(rt.alloc())?;
-    let space = space_of("game")?;
-    let other = space_of("other")?;
-    let name = name_of("game", 7)?;
-    let entries = [
-        (times_of(other, 1, 1_000_000), true),
-        (times_of(other, 1_000_000, 1), true),
-        (times_of(other, 0, 1), false),
-        (times_of(other, 1, 0), false),
-        (times_of(other, 1_000_001, 1), false),
-        (times_of(other, 1, 1_000_001), false),
-        (
-            upload_of(space, stored_of(rt.alloc(), 2, 67_108_864, &[])?),
-            true,
-        ),
-        (
-            upload_of(space, stored_of(rt.alloc(), 2, 67_108_865, &[])?),
-            false,
-        ),
-        (upload_of(space, stored_of(rt.alloc(), 1, 1, &[])?), false),
-        (upload_of(other, stored_of(rt.alloc(), 2, 1, &[])?), false),
-        (put_of(name, 1, None, false, 0), true),
-        (put_of(name, 2, None, false, 0), false),
-        (
-            put_of(name, 2, Some(stored_of(rt.alloc(), 2, 1, &[])?), false, 0),
-            true,
-        ),
-        (
-            put_of(name, 2, Some(stored_of(rt.alloc(), 3, 1, &[])?), false, 0),
-            false,
-        ),
-        (
-            put_of(name, 1, Some(stored_of(rt.alloc(), 1, 1, &[])?), false, 0),
-            false,
-        ),
-        (
-            Entry::Repin {
-                space,
-                hash: hash_of(1),
-                hour: 0,
-            },
-            true,
-        ),
-        (
-            Entry::Repin {
-                space,
-                hash: hash_of(2),
-                hour: 0,
-            },
-            false,
-        ),
-        (
-            Entry::Finalise {
-                name,
-                hash: hash_of(1),
-                hour: 0,
-            },
-            false,
-        ),
-        (Entry::Delete { name, hour: 0 }, false),
-        (Entry::Touch { name, hour: 0 }, false),
+fn times_of_1_to_1000000_hours_fit(rt: HostRuntime) -> Result<(), Fail> {
+    let index = index_with_blob(rt.alloc())?;
+    let space = space_of("other")?;
+    let rows = [
+        (1, 1_000_000, true),
+        (1_000_000, 1, true),
+        (0, 1, false),
+        (1, 0, false),
+        (1_000_001, 1, false),
+        (1, 1_000_001, false),
     ];
-    for (entry, fits) in &entries {
-        assert_eq!(rt; index.fits(entry), *fits, "of {entry:?}");
+    for (ttl, pin, fits) in rows {
+        assert_eq!(rt; index.fits(&times_of(space, ttl, pin)), fits);
     }
+    Ok(())
+}
+
+#[test]
+fn an_upload_fits_where_the_blob_is_absent_and_short(rt: HostRuntime) -> Result<(), Fail> {
+    let index = index_with_blob(rt.alloc())?;
+    let rows = [
+        ("game", 2, 67_108_864, true),
+        ("game", 2, 67_108_865, false),
+        ("game", 1, 1, false),
+        ("other", 2, 1, false),
+    ];
+    for (space, number, len, fits) in rows {
+        let blob = stored_of(rt.alloc(), number, len, &[])?;
+        assert_eq!(rt; index.fits(&upload_of(space_of(space)?, blob)), fits);
+    }
+    Ok(())
+}
+
+#[test]
+fn a_put_fits_with_a_present_root_or_a_fresh_one(rt: HostRuntime) -> Result<(), Fail> {
+    let index = index_with_blob(rt.alloc())?;
+    let name = name_of("game", 7)?;
+    for (root, fits) in [(1, true), (2, false)] {
+        assert_eq!(rt; index.fits(&put_of(name, root, None, false, 0)), fits);
+    }
+    for (root, fresh, fits) in [(2, 2, true), (2, 3, false), (1, 1, false)] {
+        let blob = stored_of(rt.alloc(), fresh, 1, &[])?;
+        assert_eq!(rt; index.fits(&put_of(name, root, Some(blob), false, 0)), fits);
+    }
+    Ok(())
+}
+
+fn repin_of(space: Namespace, number: u8) -> Entry {
+    let hash = hash_of(number);
+    Entry::Repin {
+        space,
+        hash,
+        hour: 0,
+    }
+}
+
+fn finalise_of(name: RefName, number: u8) -> Entry {
+    let hash = hash_of(number);
+    Entry::Finalise {
+        name,
+        hash,
+        hour: 0,
+    }
+}
+
+#[test]
+fn what_an_entry_names_has_to_be_there(rt: HostRuntime) -> Result<(), Fail> {
+    let mut index = index_with_blob(rt.alloc())?;
+    let name = name_of("game", 7)?;
+    assert!(rt; index.fits(&repin_of(space_of("game")?, 1)));
+    assert!(rt; !index.fits(&repin_of(space_of("game")?, 2)));
+    assert!(rt; !index.fits(&finalise_of(name, 1)));
+    assert!(rt; !index.fits(&Entry::Delete { name, hour: 0 }));
+    assert!(rt; !index.fits(&Entry::Touch { name, hour: 0 }));
     // a reference whose object is pending can be finalised and taken away, and isn't served
     assert!(rt; apply(rt.alloc(), &mut index, &put_of(name, 1, None, false, 0))?);
-    let entries = [
-        (
-            Entry::Finalise {
-                name,
-                hash: hash_of(1),
-                hour: 0,
-            },
-            true,
-        ),
-        (
-            Entry::Finalise {
-                name,
-                hash: hash_of(2),
-                hour: 0,
-            },
-            false,
-        ),
-        (Entry::Delete { name, hour: 0 }, true),
-        (Entry::Touch { name, hour: 0 }, false),
-    ];
-    for (entry, fits) in &entries {
-        assert_eq!(rt; index.fits(entry), *fits, "of {entry:?}");
-    }
+    assert!(rt; index.fits(&finalise_of(name, 1)));
+    assert!(rt; !index.fits(&finalise_of(name, 2)));
+    assert!(rt; index.fits(&Entry::Delete { name, hour: 0 }));
+    assert!(rt; !index.fits(&Entry::Touch { name, hour: 0 }));
     Ok(())
 }
 
