@@ -186,11 +186,12 @@ impl Plain {
         blob: &Stored,
         hour: u32,
     ) -> Result<(), NoMemory> {
+        // of the units that a blob can have, those that begin before its end
         let mut units: u32 = 0;
-        let mut left = blob.len;
-        while left > 0 {
-            units = units.wrapping_add(1);
-            left = left.saturating_sub(4096);
+        for unit in 0..16_384u64 {
+            if unit * 4096 < blob.len {
+                units = units.wrapping_add(1);
+            }
         }
         let row = BlobRow {
             len: blob.len,
