@@ -10,7 +10,7 @@ use Rattle.ddc_model.specs.declared.entry.Stored.{Stored}
 use Rattle.ddc_model.specs.declared.entry.Entry.{Entry}
 use Rattle.ddc_model.specs.declared.entry.Entry.TheVariants.{Space, Upload, Repin, Put, Finalise, Delete, Touch}
 use Rattle.ddc_model.specs.declared.fault.StoreFault.{StoreFault}
-use Rattle.ddc_model.specs.declared.fault.StoreFault.TheVariants.{UnknownSpace, NotFound, NotFinalised, NotPending, Full, NoMemory}
+use Rattle.ddc_model.specs.declared.fault.StoreFault.TheVariants.{Broken, UnknownSpace, NotFound, NotFinalised, NotPending, Full, HistoryFull, NoMemory, DiskFailed, Damaged}
 use Rattle.ddc_model.specs.Keys.{blob_cmp}
 use Rattle.ddc_model.specs.State.{State, blob_name, blob_at, has_space}
 use Rattle.ddc_model.specs.Entries.{after, is_hash, with_root}
@@ -196,3 +196,7 @@ Gives cache bytes next Answers (Err NotFinalised) = Makes cache bytes next Answe
 Gives cache bytes next Answers (Err NotPending) = Makes cache bytes next Answers (Err NotPending)
 Gives cache bytes next Answers (Err (Full what limit)) = Makes cache bytes next Answers (Err (Full what limit))
 Gives cache bytes next Answers (Err NoMemory) = next ≡ cache
+Gives cache bytes next Answers (Err (Broken faults)) = ⊥
+Gives cache bytes next Answers (Err (HistoryFull entries links)) = ⊥
+Gives cache bytes next Answers (Err DiskFailed) = ⊥
+Gives cache bytes next Answers (Err (Damaged name bytes_hash)) = ⊥

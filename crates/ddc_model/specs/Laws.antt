@@ -1,5 +1,5 @@
 -- What holds of the definitions.
-use Rattle.std.specs.Prelude.{◌≡◌, ℕ, ◌*◌, ◌≤◌, true, List, [], length, Option, None, Some, Result, ⊤}
+use Rattle.std.specs.Prelude.{◌≡◌, ℕ, ◌*◌, ◌≤◌, true, List, [], length, Option, None, Some, Result, IfSome, ⊤}
 use Rattle.ddc_names.specs.declared.hash.IoHash.{IoHash}
 use Rattle.ddc_names.specs.declared.reference.RefName.{RefName}
 use Rattle.ddc_model.specs.declared.rows.Limits.{Limits}
@@ -7,11 +7,14 @@ use Rattle.ddc_model.specs.declared.entry.Entry.{Entry}
 use Rattle.ddc_model.specs.declared.fault.StoreFault.{StoreFault}
 use Rattle.ddc_model.specs.Limits.{most_bytes}
 use Rattle.ddc_model.specs.State.{State}
-use Rattle.ddc_model.specs.Entries.{legal, is_time}
+use Rattle.ddc_model.specs.Entries.{after, legal, is_time}
 use Rattle.ddc_model.specs.Content.{Content, IsContent}
 use Rattle.ddc_model.specs.Closure.{Links, AreNeeds, IsWhole}
-use Rattle.ddc_model.specs.Sound.{Cache, empty_cache, IsSound}
+use Rattle.ddc_model.specs.Sound.{Cache, empty_cache, HasBytes, AreWhole, IsSound}
+use Rattle.ddc_model.specs.Counts.{fresh_of}
 use Rattle.ddc_model.specs.Commands.{SpaceAs, UploadAs, PutAs, FinaliseAs, GetAs, changed}
+use Rattle.ddc_model.specs.Reads.{DeleteAs}
+use Rattle.ddc_model.specs.History.{IsLawful}
 
 -- bytes have one list of links, and are an object or none
 abbrev pub OneContent : Type 0
@@ -60,6 +63,50 @@ abbrev pub GetStaysSound : Type 0
 GetStaysSound = (cache : Cache) (name : RefName) (hour : ℕ) (answer : Result (IoHash × List ℕ) StoreFault) (made : Option Entry)
     → IsSound cache → GetAs cache name hour answer made → IsSound (changed cache [] made)
 
+-- so does taking a reference away
+abbrev pub DeleteStaysSound : Type 0
+DeleteStaysSound = (cache : Cache) (name : RefName) (hour : ℕ) (answer : Result (Unit {0}) StoreFault) (made : Option Entry)
+    → IsSound cache → DeleteAs cache.index name hour answer made → IsSound (changed cache [] made)
+
+-- ---- what stays whole and lawful, whatever the bytes are
+
+-- a sound cache has its bytes, and its references are whole
+abbrev pub SoundHasBytes : Type 0
+SoundHasBytes = (cache : Cache) → IsSound cache → HasBytes cache
+
+-- a legal entry keeps that each blob has bytes, where those of a blob that it adds have its length
+abbrev pub LegalKeepsBytes : Type 0
+LegalKeepsBytes = (cache : Cache) (entry : Entry) (bytes : List ℕ) → HasBytes cache → legal cache.index entry ≡ true → IfSome (fresh_of entry) (λ blob. blob.len ≡ length bytes) → HasBytes (changed cache bytes (Some entry))
+
+-- the entry that is made, where there is one, is lawful, and leaves the finalised references whole
+abbrev pub KeepsWhole : State → Option Entry → Type 0
+KeepsWhole s (Some entry) = IsLawful s entry × AreWhole (after s entry)
+KeepsWhole s None = ⊤
+
+abbrev pub SpaceKeepsWhole : Type 0
+SpaceKeepsWhole = (s : State) (space : List ℕ) (ttl pin : ℕ) (answer : Result (Unit {0}) StoreFault) (made : Option Entry)
+    → AreWhole s → SpaceAs s space ttl pin answer made → KeepsWhole s made
+
+abbrev pub UploadKeepsWhole : Type 0
+UploadKeepsWhole = (s : State) (space : List ℕ) (content : Content) (hour : ℕ) (answer : Result (Unit {0}) StoreFault) (made : Option Entry)
+    → AreWhole s → UploadAs s space content hour answer made → KeepsWhole s made
+
+abbrev pub PutKeepsWhole : Type 0
+PutKeepsWhole = (s : State) (name : RefName) (content : Content) (hour : ℕ) (answer : Result (List IoHash) StoreFault) (made : Option Entry)
+    → AreWhole s → PutAs s name content hour answer made → KeepsWhole s made
+
+abbrev pub FinaliseKeepsWhole : Type 0
+FinaliseKeepsWhole = (s : State) (name : RefName) (hash : IoHash) (hour : ℕ) (answer : Result (List IoHash) StoreFault) (made : Option Entry)
+    → AreWhole s → FinaliseAs s name hash hour answer made → KeepsWhole s made
+
+abbrev pub GetKeepsWhole : Type 0
+GetKeepsWhole = (cache : Cache) (name : RefName) (hour : ℕ) (answer : Result (IoHash × List ℕ) StoreFault) (made : Option Entry)
+    → AreWhole cache.index → GetAs cache name hour answer made → KeepsWhole cache.index made
+
+abbrev pub DeleteKeepsWhole : Type 0
+DeleteKeepsWhole = (s : State) (name : RefName) (hour : ℕ) (answer : Result (Unit {0}) StoreFault) (made : Option Entry)
+    → AreWhole s → DeleteAs s name hour answer made → KeepsWhole s made
+
 -- ---- the entries that commands make are legal
 
 -- the entry that is made, where there is one, is legal
@@ -91,3 +138,8 @@ FinaliseIsLegal = (s : State) (name : RefName) (hash : IoHash) (hour : ℕ) (ans
 abbrev pub GetIsLegal : Type 0
 GetIsLegal = (cache : Cache) (name : RefName) (hour : ℕ) (answer : Result (IoHash × List ℕ) StoreFault) (made : Option Entry)
     → GetAs cache name hour answer made → IsLegal cache.index made
+
+-- and that of a reference that is taken away
+abbrev pub DeleteIsLegal : Type 0
+DeleteIsLegal = (s : State) (name : RefName) (hour : ℕ) (answer : Result (Unit {0}) StoreFault) (made : Option Entry)
+    → DeleteAs s name hour answer made → IsLegal s made

@@ -7,4 +7,6 @@ pub mod Closure
 pub mod Sound
 pub mod Counts
 pub mod Commands
+pub mod History
+pub mod Reads
 pub mod Laws

@@ -27,8 +27,17 @@ pub record IsBlobOf (name : BlobName) (blob : Blob) (bytes : List ℕ) : Type 0 
   pub is_object : Bool
   pub links : IsRead bytes is_object blob.links
 
+-- each blob has bytes, as many as its row says, and nothing else has
+pub record HasBytes (cache : Cache) : Type 0 where
+  pub each : (name : BlobName) (blob : Blob) → get cache.index.blobs name ≡ Some blob → (bytes : List ℕ) × (get cache.bytes name ≡ Some bytes) × (blob.row.len ≡ length bytes)
+  pub none_else : (name : BlobName) (bytes : List ℕ) → get cache.bytes name ≡ Some bytes → IsSome (get cache.index.blobs name)
+
+-- of each finalised object the whole closure is there
+abbrev pub AreWhole : State → Type 0
+AreWhole s = (name : RefName) (slot : Slot) (hash : IoHash) → get s.slots name ≡ Some slot → slot.done ≡ Some hash → IsWhole (links_in s name.space) hash
+
 -- each blob has its bytes; and of each finalised object the whole closure is there
 pub record IsSound (cache : Cache) : Type 0 where
   pub blobs : (name : BlobName) (blob : Blob) → get cache.index.blobs name ≡ Some blob → (bytes : List ℕ) × (get cache.bytes name ≡ Some bytes) × IsBlobOf name blob bytes
   pub none_else : (name : BlobName) (bytes : List ℕ) → get cache.bytes name ≡ Some bytes → IsSome (get cache.index.blobs name)
-  pub whole : (name : RefName) (slot : Slot) (hash : IoHash) → get cache.index.slots name ≡ Some slot → slot.done ≡ Some hash → IsWhole (links_in cache.index name.space) hash
+  pub whole : AreWhole cache.index

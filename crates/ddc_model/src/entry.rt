@@ -1,6 +1,7 @@
 //! The entries of a store's history.
 
 use cb_fields::Link;
+use crate::Limits;
 use ddc_names::{IoHash, Namespace, RefName, Rows};
 
 /// A blob as an entry adds it.
@@ -60,5 +61,22 @@ pub enum Entry {
     Touch {
         name: RefName,
         hour: u32,
+    },
+}
+
+/// One item of the history of a store that was opened.
+#[derive(Debug, Drop)]
+pub enum Step {
+    /// The store was opened within these limits, with what the changes before it left. So often had its
+    /// devices failed.
+    Loaded { limits: Limits, faults: u64 },
+    /// A change.
+    Change(Entry),
+    /// A call failed at the disks, and their count of faults rose. `changed` tells that the change
+    /// before it is that call's, and may not be on the disks.
+    Broke {
+        changed: bool,
+        before: u64,
+        now: u64,
     },
 }

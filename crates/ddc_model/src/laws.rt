@@ -1,7 +1,8 @@
 // Laws of the definitions.
 ghost use Rattle.ddc_model.specs.Laws.{OneContent, LinksFit, OneListOfNeeds, WholeStaysWhole};
-ghost use Rattle.ddc_model.specs.Laws.{EmptyIsSound, SpaceStaysSound, UploadStaysSound, PutStaysSound, FinaliseStaysSound, GetStaysSound};
-ghost use Rattle.ddc_model.specs.Laws.{SpaceIsLegal, UploadIsLegal, PutIsLegal, FinaliseIsLegal, GetIsLegal};
+ghost use Rattle.ddc_model.specs.Laws.{EmptyIsSound, SpaceStaysSound, UploadStaysSound, PutStaysSound, FinaliseStaysSound, GetStaysSound, DeleteStaysSound};
+ghost use Rattle.ddc_model.specs.Laws.{SpaceIsLegal, UploadIsLegal, PutIsLegal, FinaliseIsLegal, GetIsLegal, DeleteIsLegal};
+ghost use Rattle.ddc_model.specs.Laws.{SoundHasBytes, LegalKeepsBytes, SpaceKeepsWhole, UploadKeepsWhole, PutKeepsWhole, FinaliseKeepsWhole, GetKeepsWhole, DeleteKeepsWhole};
 
 /// Bytes have one list of links, and are an object or none.
 pub fn one_content()
@@ -31,6 +32,20 @@ pub fn commands_stay_sound()
     ensures put { PutStaysSound }
     ensures finalise { FinaliseStaysSound }
     ensures get { GetStaysSound }
+    ensures delete { DeleteStaysSound }
+{}
+
+/// Whatever the bytes of the blobs are, each blob keeps bytes of its length, and each finalised reference its whole
+/// closure.
+pub fn commands_keep_whole()
+    ensures sound { SoundHasBytes }
+    ensures bytes { LegalKeepsBytes }
+    ensures space { SpaceKeepsWhole }
+    ensures upload { UploadKeepsWhole }
+    ensures put { PutKeepsWhole }
+    ensures finalise { FinaliseKeepsWhole }
+    ensures get { GetKeepsWhole }
+    ensures delete { DeleteKeepsWhole }
 {}
 
 /// The entry that a command makes is legal in the state before it.
@@ -40,4 +55,5 @@ pub fn entries_are_legal()
     ensures put { PutIsLegal }
     ensures finalise { FinaliseIsLegal }
     ensures get { GetIsLegal }
+    ensures delete { DeleteIsLegal }
 {}
