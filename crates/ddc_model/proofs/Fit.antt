@@ -1,10 +1,10 @@
 -- The links of an object take bytes of it.
-use Rattle.std.specs.Prelude.{◌≡◌, ℕ, ◌+◌, ◌*◌, ◌≤◌, Bool, true, false, List, [], ◌∷◌, ◌++◌, length, Option}
-use Rattle.std.proofs.Common.{ap, sym, ◌∙◌, arith, length-append}
+use Rattle.std.specs.Prelude.{◌≡◌, ℕ, ◌*◌, ◌≤◌, Bool, true, false, List, ◌++◌, length}
+use Rattle.std.proofs.Common.{ap, arith, length-append}
 use Rattle.cb_fields.specs.declared.links.Link.{Link}
 use Rattle.cb_fields.specs.declared.form.Form.{Form}
 use Rattle.cb_fields.specs.Language.{IsPlain, fixed, attachment, number, sized, Class, Spells, plain, container, none, more}
-use Rattle.ddc_model.specs.Content.{Content, IsContent, IsRead}
+use Rattle.ddc_model.specs.Content.{IsRead}
 use Rattle.ddc_model.specs.Laws.{LinksFit}
 
 plain_fits : (form : Form) (p : List ℕ) (links : List Link) → IsPlain form p links → 20 * length links ≤ length p

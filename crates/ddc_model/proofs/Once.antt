@@ -1,7 +1,7 @@
 -- That the definitions give one answer, and that a whole closure stays whole.
-use Rattle.std.specs.Prelude.{◌≡◌, ℕ, zero, suc, Bool, true, false, ◌||◌, List, [], ◌∷◌, Option, None, Some, IsTrue, ◌⊎◌, refl}
-use Rattle.std.proofs.Common.{ap, sym, ◌∙◌, subst, inl, inr}
-use Rattle.std.specs.List.{Contains, list_any, AllByRecursion}
+use Rattle.std.specs.Prelude.{◌≡◌, ℕ, zero, suc, Bool, true, false, ◌||◌, List, [], ◌∷◌, Option, None, Some, refl}
+use Rattle.std.proofs.Common.{ap, sym, ◌∙◌, subst}
+use Rattle.std.specs.List.{list_any, AllByRecursion}
 use Rattle.std.specs.List.Sorted.{IsStrictlySortedBy}
 use Rattle.std.specs.BTreeMap.{is_at}
 use Rattle.std.specs.Cmp.{both_ways}
@@ -13,8 +13,8 @@ use Rattle.ddc_names.specs.declared.hash.IoHash.{IoHash}
 use Rattle.ddc_names.specs.Orders.{io_hash_cmp, io_hash_exact, io_hash_total}
 use Rattle.cb_fields.specs.declared.links.Link.{Link}
 use Rattle.cb_fields.proofs.Laws.{one_object}
-use Rattle.ddc_model.specs.Content.{Content, IsContent, IsRead}
-use Rattle.ddc_model.specs.Closure.{Links, object, LeadsTo, Walk, IsReached, IsMissing, has_hash, AreNeeds, IsWhole}
+use Rattle.ddc_model.specs.Content.{Content, IsRead}
+use Rattle.ddc_model.specs.Closure.{Links, object, LeadsTo, Walk, IsReached, has_hash, IsWhole}
 use Rattle.ddc_model.specs.Laws.{OneContent, OneListOfNeeds, WholeStaysWhole}
 
 -- ---- contents
@@ -54,7 +54,7 @@ lower : (x y : IoHash) (ys : List IoHash) → io_hash_cmp x y ≡ Less → AllBy
 lower x y [] l all = all
 lower x y (z ∷ zs) l all = (io_hash_total.trans x y z l all.0, lower x y zs l all.1)
 
-itself : (x : IoHash) (ys : List IoHash) → has_hash (x ∷ ys) x ≡ true
+pub itself : (x : IoHash) (ys : List IoHash) → has_hash (x ∷ ys) x ≡ true
 itself x ys = first (io_hash_cmp x x) (io_hash_total.antisymm x x) where
   first : (o : Ordering) → o ≡ ordering_reverse o → (is_eq o || list_any (is_at (io_hash_cmp x)) ys) ≡ true
   first Less e = absurd (cc)

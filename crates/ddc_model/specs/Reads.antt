@@ -1,5 +1,5 @@
 -- What the commands that read answer, from a state and the bytes of its blobs, and which blobs are absent.
-use Rattle.std.specs.Prelude.{◌≡◌, ℕ, Bool, true, false, not, ◌&&◌, List, Option, None, Some, is_some, Result, Ok, Err, IsTrue, ◌↔◌, if◌then◌else◌}
+use Rattle.std.specs.Prelude.{◌≡◌, ℕ, Bool, true, false, List, Option, None, Some, is_some, Result, Ok, Err, IsTrue, ◌↔◌, if◌then◌else◌}
 use Rattle.std.specs.FinMap.{get}
 use Rattle.std.specs.List.Sorted.{IsStrictlySortedBy}
 use Rattle.ddc_names.specs.declared.hash.IoHash.{IoHash}
@@ -15,7 +15,7 @@ use Rattle.ddc_model.specs.Entries.{same_hash}
 use Rattle.ddc_model.specs.Content.{named}
 use Rattle.ddc_model.specs.Closure.{has_hash}
 use Rattle.ddc_model.specs.Sound.{Cache}
-use Rattle.ddc_model.specs.Commands.{EntryWhere, GetAs, fetch, found, hour_of, object_of}
+use Rattle.ddc_model.specs.Commands.{EntryWhere, GetAs, fetch, hour_of, object_of}
 use Rattle.ddc_model.specs.History.{Past, no_room_for}
 
 -- ---- blobs

@@ -1,5 +1,5 @@
 -- When a state and the bytes of its blobs are sound.
-use Rattle.std.specs.Prelude.{◌≡◌, ℕ, Bool, List, length, Option, Some, IsSome}
+use Rattle.std.specs.Prelude.{◌≡◌, ℕ, Bool, List, length, Some, IsSome}
 use Rattle.std.specs.FinMap.{FinMap, get, empty}
 use Rattle.ddc_names.specs.declared.hash.IoHash.{IoHash}
 use Rattle.ddc_names.specs.declared.reference.RefName.{RefName}

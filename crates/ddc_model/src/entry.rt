@@ -1,7 +1,7 @@
 //! The entries of a store's history.
 
-use cb_fields::Link;
 use crate::Limits;
+use cb_fields::Link;
 use ddc_names::{IoHash, Namespace, RefName, Rows};
 
 /// A blob as an entry adds it.
@@ -69,7 +69,10 @@ pub enum Entry {
 pub enum Step {
     /// The store was opened within these limits, with what the changes before it left. So often had its
     /// devices failed.
-    Loaded { limits: Limits, faults: u64 },
+    Loaded {
+        limits: Limits,
+        faults: u64,
+    },
     /// A change.
     Change(Entry),
     /// A call failed at the disks, and their count of faults rose. `changed` tells that the change

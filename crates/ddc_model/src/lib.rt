@@ -13,7 +13,7 @@ mod rows;
 pub use entry::{Entry, Step, Stored};
 pub use fault::{StoreFault, What};
 pub use laws::{
-    commands_keep_whole, commands_stay_sound, entries_are_legal, links_fit, one_content, one_list_of_needs,
-    whole_stays_whole,
+    commands_keep_whole, commands_stay_sound, entries_are_legal, links_fit, one_content,
+    one_list_of_needs, whole_stays_whole,
 };
 pub use rows::{Blob, BlobName, BlobRow, Extent, Limits, SpaceRow};

@@ -14,7 +14,7 @@ use Rattle.ddc_model.specs.State.{State, blob_name, blob_at, has_space}
 use Rattle.ddc_model.specs.Content.{Content, named}
 use Rattle.ddc_model.specs.Sound.{Cache, IsSound}
 use Rattle.ddc_model.specs.Commands.{hour_of, stored, unless, with_room, EntryWhere, upload_where, upload_entry, UploadAs}
-use Rattle.ddc_model.proofs.Sound.{same_some}
+use Rattle.ddc_model.proofs.Maps.{same_some}
 use Rattle.ddc_model.specs.Keys.{blob_cmp, blob_total, blob_exact}
 use Rattle.ddc_state.proofs.Given.{put_undone}
 use Rattle.memory_store.specs.Views.{full_by}

@@ -27,7 +27,7 @@ use Rattle.ddc_model.specs.Closure.{Links, links_in, with_links, AreNeeds}
 use Rattle.ddc_model.specs.Counts.{added, full}
 use Rattle.ddc_model.specs.Sound.{Cache}
 use Rattle.ddc_model.specs.Commands.{changed, hour_of, stored, is_empty, fresh_where, fresh_root, with_object, put_entry, put_fault, PutWhere, PutAs, is_done, finalise_entry, FinaliseWhere, FinaliseAs}
-use Rattle.ddc_model.proofs.Sound.{get_here, get_away, same_or_not}
+use Rattle.ddc_model.proofs.Maps.{get_here, get_away, same_or_not}
 use Rattle.memory_store.specs.Views.{full_by}
 
 pub no_needs : (needs : List IoHash) → nat_eq (length needs) 0 ≡ is_empty needs

@@ -1,5 +1,5 @@
 use Rattle.ddc_model.proofs.laws.commands_stay_sound.Goals as goal
-use Rattle.ddc_model.proofs.Sound.{empty_sound, space_sound, upload_sound, put_sound, finalise_sound, get_sound}
+use Rattle.ddc_model.proofs.Sound.{empty_sound, space_sound, upload_sound, put_sound, finalise_sound, get_sound, delete_sound}
 
 pub returns-clause-empty : goal.returns-clause-empty
 returns-clause-empty c = empty_sound
@@ -18,3 +18,6 @@ returns-clause-finalise c = finalise_sound
 
 pub returns-clause-get : goal.returns-clause-get
 returns-clause-get c = get_sound
+
+pub returns-clause-delete : goal.returns-clause-delete
+returns-clause-delete c = delete_sound
