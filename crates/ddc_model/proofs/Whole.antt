@@ -35,18 +35,18 @@ whole_alike links others root same whole = subst (λ (l : Links). IsWhole l root
 -- ---- a blob is added
 
 module _ (s : State) (space : List ℕ) (blob : Stored) (none : blob_at s space blob.hash ≡ None) (hour : ℕ) where
-  abbrev name : BlobName
-  name = blob_name space blob.hash
+  abbrev its_name : BlobName
+  its_name = blob_name space blob.hash
 
   abbrev added : State
   added = with_blob s space blob hour
 
-  away : (other : List ℕ) (hash : IoHash) → (blob_name other hash ≡ name → ⊥) → links_in added other hash ≡ links_in s other hash
-  away other hash differs = ap links_of (get_away blob_total blob_exact s.blobs name (blob_of blob hour) (blob_name other hash) differs)
+  away : (other : List ℕ) (hash : IoHash) → (blob_name other hash ≡ its_name → ⊥) → links_in added other hash ≡ links_in s other hash
+  away other hash differs = ap links_of (get_away blob_total blob_exact s.blobs its_name (blob_of blob hour) (blob_name other hash) differs)
 
   closure_stays : (other : List ℕ) (root : IoHash) → IsWhole (links_in s other) root → IsWhole (links_in added other) root
-  closure_stays other root whole = split (same_or_not blob_total blob_exact (blob_name other blob.hash) name) where
-    split : (blob_name other blob.hash ≡ name) ⊎ (blob_name other blob.hash ≡ name → ⊥) → IsWhole (links_in added other) root
+  closure_stays other root whole = split (same_or_not blob_total blob_exact (blob_name other blob.hash) its_name) where
+    split : (blob_name other blob.hash ≡ its_name) ⊎ (blob_name other blob.hash ≡ its_name → ⊥) → IsWhole (links_in added other) root
     split (inl same) =
         still_whole (links_in s other) (links_in added other) root blob.hash (ap (λ (n : BlobName). links_of (get s.blobs n)) same ∙ ap links_of none)
         (λ hash differs. away other hash (λ e. differs (ap (λ (n : BlobName). n.hash) e))) whole

@@ -1,23 +1,13 @@
--- What a command gives that is refused, or makes its entry.
+-- What a command gives that makes its entry.
 use Rattle.std.specs.Prelude.{◌≡◌, ℕ, Bool, true, false, List, Option, None, Some, Result, Ok, Err, refl}
 use Rattle.std.proofs.Common.{ap, sym, ◌∙◌, subst}
 use Rattle.ddc_model.specs.declared.entry.Entry.{Entry}
 use Rattle.ddc_model.specs.declared.fault.StoreFault.{StoreFault}
-use Rattle.ddc_model.specs.declared.fault.StoreFault.TheVariants.{UnknownSpace, NotFound, NotFinalised, NotPending, Full, NoMemory}
 use Rattle.ddc_model.specs.State.{State}
 use Rattle.ddc_model.specs.Counts.{full}
 use Rattle.ddc_model.specs.Sound.{Cache}
 use Rattle.memory_store.specs.Views.{Answers}
 use Rattle.ddc_model.specs.Commands.{unless, with_room, EntryWhere, changed, Gives}
-
--- a command that is refused changes nothing
-pub refused : {A : Type 0} (cache : Cache) (bytes : List ℕ) (Answers : Result A StoreFault → Option Entry → Type 0) (fault : StoreFault) → Answers (Err fault) None → Gives cache bytes cache Answers (Err fault)
-refused cache bytes Answers UnknownSpace h = (None, h, refl)
-refused cache bytes Answers NotFound h = (None, h, refl)
-refused cache bytes Answers NotFinalised h = (None, h, refl)
-refused cache bytes Answers NotPending h = (None, h, refl)
-refused cache bytes Answers (Full what limit) h = (None, h, refl)
-refused cache bytes Answers NoMemory h = refl
 
 -- a command whose entry was made, or not for want of memory
 pub answered : {A : Type 0} (cache : Cache) (bytes : List ℕ) (next : Cache) (Gives_as : Result A StoreFault → Option Entry → Type 0) (entry : Entry) (value : A) (answer : Result A StoreFault)
