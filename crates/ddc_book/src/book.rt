@@ -30,9 +30,11 @@ pub struct Book<D: Disk> {
 }
 
 impl<D: Disk> Model for Book<D> {
-    ghost use Rattle.ddc_book.specs.View.{BookView, IsBook};
+    ghost use Rattle.ddc_book.specs.View.{BookView, coded_book, IsBook};
 
     ghost Value = { BookView D };
+
+    ghost coded = { coded_book D.code };
 
     ghost view = { λ b. record { devices = b.devices; cache = record { index = b.index.state; bytes = b.bytes }; steps = b.history; opened = b.opened } };
 

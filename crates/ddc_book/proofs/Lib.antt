@@ -1,0 +1,5 @@
+pub mod Steps
+pub mod Tally
+pub mod Kept
+pub mod Lent
+pub mod Lengths
