@@ -1,5 +1,5 @@
 -- What a book's type keeps while an entry is made.
-use Rattle.std.specs.Prelude.{◌≡◌, ◌⊎◌, ℕ, ◌+◌, ◌-◌, ◌^◌, ◌≤◌, Bool, true, IsTrue, min, List, [], ◌∷◌, ◌++◌, length, take, Option, None, Some, IfSome, ⊤, refl}
+use Rattle.std.specs.Prelude.{◌≡◌, ◌⊎◌, ℕ, ◌+◌, ◌-◌, ◌^◌, ◌≤◌, Bool, true, IsTrue, min, List, [], ◌∷◌, ◌++◌, length, take, Option, None, Some, Ok, IfSome, ⊤, refl}
 use Rattle.std.proofs.Common.{inl, inr, ⊎_elim, sym, ◌∙◌, ap, subst, arith, append_assoc, length-append}
 use Rattle.std.proofs.lemmas.Bool.{cases_lt}
 use Rattle.std.proofs.lemmas.List.{take-append-le, take_at}
@@ -31,7 +31,7 @@ use Rattle.ddc_model.specs.History.{after_steps, broken_by, AreLawful, IsLawful}
 use Rattle.ddc_model.proofs.Bytes.{bytes_kept}
 use Rattle.ddc_book.specs.Opening.{length_of, IsBody, Leads, Opens}
 use Rattle.ddc_book.specs.View.{BookView, limits_of, line_of, faults_of, IsBook, IsHistory, IsHonest, IsStored, OpensSome}
-use Rattle.ddc_book.specs.Calls.{bytes_or_none, GoesOn}
+use Rattle.ddc_book.specs.Calls.{bytes_or_none, Breaks, GoesOn}
 use Rattle.ddc_book.specs.Making.{Brings, IsFit}
 use Rattle.ddc_book.proofs.Steps.{after_more, broken_more, unbroken_behind, lawful_more}
 
@@ -229,11 +229,20 @@ module _ {D : Type 0} (tells : Bool) (meaning : D → Meaning) (old : BookView D
   broken_now before now none = let gone : Some now ≡ None = sym (broken_more old.steps (Change entry ∷ Broke true before now ∷ []) unbroken) ∙ none in cc
 
   -- the disks failed meanwhile
-  pub keeps_broken : (before now : ℕ) → before ≡ faults_of meaning old → now ≡ devices_faults meaning devices → Rose before now → (end' : ℕ) → IsBook tells meaning (with_steps (Broke true before now ∷ [])) end'
+  pub keeps_broken : (before now : ℕ) → before ≡ faults_of meaning old → now ≡ devices_faults meaning devices → Rose (faults_of meaning old) (devices_faults meaning devices) → (end' : ℕ) → IsBook tells meaning (with_steps (Broke true before now ∷ [])) end'
   keeps_broken before now was is_now rose end' =
-      keeps (Broke true before now ∷ []) (λ s. refl) (λ faults s le. (omega (arith, le, was), rose, refl)) (omega (arith, is_now)) end' (λ told none. absurd (broken_now before now none))
+      keeps (Broke true before now ∷ []) (λ s. refl) (λ faults s le. (omega (arith, le, was), omega (arith, rose, was, is_now), refl)) (omega (arith, is_now)) end' (λ told none. absurd (broken_now before now none))
 
   -- the book whose parts were changed each by itself
-  pub as_made : (index : State) (all : FinMap blob_cmp (List ℕ)) (steps tail : List Step) → index ≡ after old.cache.index entry → all ≡ kept old.cache.bytes entry bytes → steps ≡ old.steps ++ Change entry ∷ tail
-      → record { devices = devices; cache = record { index = index; bytes = all }; steps = steps; opened = old.opened } ≡ with_steps tail
-  as_made index all steps tail index_is bytes_is steps_is i = record { devices = devices; cache = record { index = index_is i; bytes = bytes_is i }; steps = steps_is i; opened = old.opened }
+  pub as_made : (index : State) (all : FinMap blob_cmp (List ℕ)) (listed tail : List Step) → index ≡ after old.cache.index entry → all ≡ kept old.cache.bytes entry bytes → listed ≡ old.steps ++ Change entry ∷ tail
+      → record { devices = devices; cache = record { index = index; bytes = all }; steps = listed; opened = old.opened } ≡ with_steps tail
+  as_made index all listed tail index_is bytes_is steps_is i = record { devices = devices; cache = record { index = index_is i; bytes = bytes_is i }; steps = steps_is i; opened = old.opened }
+
+-- what a call gives at which the disks failed
+pub breaks : {D : Type 0} (bytes : List ℕ) (entry : Entry) (before now : ℕ) (seen old new : BookView D) → seen ≡ old → broken_by old.steps ≡ None
+    → new.cache ≡ changed seen.cache bytes (Some entry) → new.steps ≡ seen.steps ++ Change entry ∷ Broke true before now ∷ [] → Breaks {A = Unit {0}} old bytes new (λ answer made. (answer ≡ Ok tt) × (made ≡ Some entry))
+breaks {D} bytes entry before now seen old new same unbroken cache_is steps_is =
+    (unbroken, tt, entry, before, now, (refl, refl), cache_is ∙ ap (λ (b : BookView D). changed b.cache bytes (Some entry)) same, steps_is ∙ ap (λ (b : BookView D). b.steps ++ Change entry ∷ Broke true before now ∷ []) same)
+
+pub goes_between : {D : Type 0} (tells : Bool) (meaning : D → Meaning) {seen old made new : BookView D} → seen ≡ old → new ≡ made → GoesOn tells meaning seen made → GoesOn tells meaning old new
+goes_between {D} tells meaning {seen} {old} {made} {new} same is goes = subst (λ (b : BookView D). GoesOn tells meaning b new) same (subst (λ (b : BookView D). GoesOn tells meaning seen b) (sym is) goes)
