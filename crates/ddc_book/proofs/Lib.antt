@@ -3,3 +3,4 @@ pub mod Tally
 pub mod Kept
 pub mod Lent
 pub mod Lengths
+pub mod Giving

@@ -1,6 +1,7 @@
 -- What is asked of an entry before a book makes it, and the parts of what its commands give.
-use Rattle.std.specs.Prelude.{◌≡◌, ℕ, true, List, length, Option, None, Some, if◌then◌else◌, ⊤}
+use Rattle.std.specs.Prelude.{◌≡◌, ℕ, Bool, true, List, length, Option, None, Some, if◌then◌else◌, ⊤}
 use Rattle.std.specs.FinMap.{len}
+use Rattle.ddc_disk.specs.Disk.{Meaning}
 use Rattle.ddc_model.specs.declared.rows.BlobName.{BlobName}
 use Rattle.ddc_model.specs.declared.entry.Stored.{Stored}
 use Rattle.ddc_model.specs.declared.entry.Entry.{Entry}
@@ -11,10 +12,11 @@ use Rattle.ddc_model.specs.declared.fault.What.TheVariants.{Spaces, Blobs, Refs,
 use Rattle.ddc_model.specs.State.{State, blob_name}
 use Rattle.ddc_model.specs.Entries.{after, legal}
 use Rattle.ddc_model.specs.Counts.{fresh_of, link_count, added_blobs, added_links, passes}
-use Rattle.ddc_model.specs.Sound.{Cache, AreWhole, IsSound}
+use Rattle.ddc_model.specs.Sound.{Cache, AreWhole, HasBytes, IsSound}
 use Rattle.ddc_model.specs.Commands.{changed}
-use Rattle.ddc_model.specs.History.{IsLawful}
-use Rattle.ddc_book.specs.Calls.{bytes_or_none}
+use Rattle.ddc_model.specs.History.{broken_by, IsLawful}
+use Rattle.ddc_book.specs.View.{BookView}
+use Rattle.ddc_book.specs.Calls.{bytes_or_none, GoesOn}
 
 -- the bytes of the blob that an entry adds, and nothing where it adds none
 abbrev pub Brings : Option Stored → Option (List ℕ) → Type 0
@@ -44,6 +46,14 @@ pub record IsFit (cache : Cache) (entry : Entry) (blob : Option (List ℕ)) : Ty
   pub whole : AreWhole (after cache.index entry)
   pub brings : Brings (fresh_of entry) blob
   pub sound : IsSound cache → IsSound (changed cache (bytes_or_none blob) (Some entry))
+
+-- an unbroken book as each command finds it: its references are whole, its blobs have bytes, and where nothing is
+-- done to the devices a crash leaves its state
+pub record Serves {D : Type 0} (tells : Bool) (meaning : D → Meaning) (book : BookView D) : Type 0 where
+  pub unbroken : broken_by book.steps ≡ None
+  pub whole : AreWhole book.cache.index
+  pub has_bytes : HasBytes book.cache
+  pub stays : GoesOn tells meaning book book
 
 -- a fault that is a command's answer, and not one of the book's own
 abbrev pub IsRefusal : StoreFault → Type 0

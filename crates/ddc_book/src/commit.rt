@@ -1,6 +1,6 @@
 //! How an entry is made: all memory first, then the step and the new index, and then the journal.
 
-ghost use Rattle.std.specs.Prelude.{◌≡◌, ◌++◌, ◌∷◌, [], ◌≤◌, ℕ, List, true, None, Some, IfOk, IfSome, OnErr, OnOk, length, Err, option_map};
+ghost use Rattle.std.specs.Prelude.{◌≡◌, ◌++◌, ◌∷◌, [], ◌≤◌, ℕ, List, true, None, Some, IfOk, IfSome, OnErr, OnOk, length, Err, Ok};
 ghost use Rattle.ddc_disk.specs.Causes.{HasCause, Rose};
 ghost use Rattle.ddc_disk.specs.Disk.{EachSince};
 ghost use Rattle.ddc_disk.specs.Images.{devices_faults, devices_line};
@@ -13,9 +13,9 @@ ghost use Rattle.ddc_model.specs.Entries.{after, legal};
 ghost use Rattle.ddc_model.specs.Counts.{added_links, fresh_of};
 ghost use Rattle.ddc_model.specs.Sound.{HasBytes};
 ghost use Rattle.ddc_model.specs.Commands.{kept};
-ghost use Rattle.ddc_model.specs.History.{broken_by, no_room, past_of};
-ghost use Rattle.ddc_book.specs.Calls.{bytes_or_none, Commits, GoesOn};
-ghost use Rattle.ddc_book.specs.Making.{added_name, Brings, IsFit};
+ghost use Rattle.ddc_model.specs.History.{broken_by, no_room, past_of, WithRoom};
+ghost use Rattle.ddc_book.specs.Calls.{bytes_or_none, Commits, Gives, GoesOn};
+ghost use Rattle.ddc_book.specs.Making.{added_name, Brings, IsFit, Serves};
 ghost use Rattle.ddc_book.specs.View.{faults_of};
 
 use crate::Book;
@@ -163,6 +163,28 @@ impl<D: Disk> Book<D> {
                 self.history.note_broken(before, self.devices.faults());
                 Err(StoreFault::DiskFailed)
             }
+        }
+    }
+    // Makes the entry of a command, where the history has room for it, and answers this.
+    pub(crate) fn make<A: Drop>(
+        &mut self,
+        alloc: Global,
+        entry: Entry,
+        blob: Option<Whole>,
+        answer: A,
+    ) -> Result<A, StoreFault>
+        requires serves { Serves D.tells D.meaning self.old }
+        requires fit { IsFit self.old.cache entry blob }
+        ensures gives { Gives self.old (bytes_or_none blob) self.new (WithRoom self.old.cache.index (past_of self.old.steps) (λ wished made. (wished ≡ Ok answer) × (made ≡ Some entry))) result }
+        ensures goes_on { GoesOn D.tells D.meaning self.old self.new }
+        ensures cause { result ≡ Err StoreFault.DiskFailed → Rose (faults_of D.meaning self.old) (faults_of D.meaning self.new) }
+    {
+        if let Some(fault) = self.no_room(&entry) {
+            return Err(fault);
+        }
+        match self.commit(alloc, entry, blob) {
+            Ok(()) => Ok(answer),
+            Err(fault) => Err(fault),
         }
     }
 }
