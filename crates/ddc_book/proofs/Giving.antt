@@ -35,7 +35,7 @@ module _ {D A : Type 0} (old : BookView D) (bytes : List ℕ) (Answers : Result 
   answered value h = (unbroken, None, h, refl)
 
 -- a refusal is no failure of the disks
-pub not_failed : {A : Type 0} (fault : StoreFault) (P : Type 0) → IsRefusal fault → Err {T = A} fault ≡ Err DiskFailed → P
+pub not_failed : {A : Type 0} (fault : StoreFault) (P : Type 0) → IsRefusal fault → (let answer : Result A StoreFault = Err fault in answer ≡ Err DiskFailed) → P
 not_failed (Broken faults) P is e = absurd is
 not_failed UnknownSpace P is e = cc
 not_failed NotFound P is e = cc
@@ -51,28 +51,26 @@ not_failed (Damaged hash found) P is e = cc
 pub no_room_needed : {A : Type 0} (s : State) (past : Past) (Answers : Result A StoreFault → Option Entry → Type 0) (answer : Result A StoreFault) → Answers answer None → WithRoom s past Answers answer None
 no_room_needed s past Answers answer h = (answer, None, h, (refl, refl))
 
-no_error : (fault : StoreFault) → Err {T = Unit {0}} fault ≡ Ok tt → ⊥
+no_error : (fault : StoreFault) → (let answer : Result (Unit {0}) StoreFault = Err fault in answer ≡ Ok tt) → ⊥
 no_error fault e = cc
 
 -- ---- an entry is made
 
-module _ {D A : Type 0} (old new : BookView D) (bytes : List ℕ) (entry : Entry) (value : A) where
+module _ {D A : Type 0} (old : BookView D) (entry : Entry) (value : A) where
   -- what `make` answers
-  abbrev pub Made : Result A StoreFault → Option Entry → Type 0
-  Made wished made = (wished ≡ Ok value) × (made ≡ Some entry)
-
   abbrev pub InRoom : Result A StoreFault → Option Entry → Type 0
-  InRoom = WithRoom old.cache.index (past_of old.steps) Made
+  InRoom = WithRoom old.cache.index (past_of old.steps) (λ wished made. (wished ≡ Ok value) × (made ≡ Some entry))
 
   full_up : (fault : StoreFault) → no_room old.cache.index (past_of old.steps) entry ≡ Some fault → InRoom (Err fault) None
   full_up fault is = (Ok value, Some entry, (refl, refl), subst (λ (o : Option StoreFault). RoomWhere o (Ok value) (Some entry) (Err fault) None) (sym is) (refl, refl))
 
-  in_room : no_room old.cache.index (past_of old.steps) entry ≡ None → InRoom (Ok value) (Some entry)
+  pub in_room : no_room old.cache.index (past_of old.steps) entry ≡ None → InRoom (Ok value) (Some entry)
   in_room is = (Ok value, Some entry, (refl, refl), subst (λ (o : Option StoreFault). RoomWhere o (Ok value) (Some entry) (Ok value) (Some entry)) (sym is) (refl, refl))
 
-  pub room_refused : broken_by old.steps ≡ None → (fault : StoreFault) → IsRefusal fault → no_room old.cache.index (past_of old.steps) entry ≡ Some fault → Gives old bytes old InRoom (Err fault)
-  room_refused unbroken fault is full_is = refused old bytes InRoom unbroken fault is (full_up fault full_is)
+  pub room_refused : (bytes : List ℕ) → broken_by old.steps ≡ None → (fault : StoreFault) → IsRefusal fault → no_room old.cache.index (past_of old.steps) entry ≡ Some fault → Gives old bytes old InRoom (Err fault)
+  room_refused bytes unbroken fault is full_is = refused old bytes InRoom unbroken fault is (full_up fault full_is)
 
+module _ {D A : Type 0} (old new : BookView D) (bytes : List ℕ) (entry : Entry) (value : A) where
   module _ (Answers : Result A StoreFault → Option Entry → Type 0) (h : Answers (Ok value) (Some entry)) where
     -- the entry was made
     pub committed : Commits old entry bytes new (Ok tt) → Gives old bytes new Answers (Ok value)
@@ -102,20 +100,20 @@ module _ {D A : Type 0} (old new : BookView D) (bytes : List ℕ) (entry : Entry
     same_change made None wished wished_entry answer is (_, same) = subst (λ (o : Option Entry). changed old.cache bytes o ≡ changed old.cache others o) (sym (same ∙ is)) alike
     same_change made (Some fault) wished wished_entry answer is (_, same) = subst (λ (o : Option Entry). changed old.cache bytes o ≡ changed old.cache others o) (sym same) refl
 
-    answers : (answer : Result A StoreFault) (made : Option Entry) → InRoom answer made → Whole answer made
+    answers : (answer : Result A StoreFault) (made : Option Entry) → InRoom old entry value answer made → Whole answer made
     answers answer made p = (p.0, p.1, subst (λ (o : Option Entry). Answers p.0 o) (sym p.2.1) (subst (λ (w : Result A StoreFault). Answers w (Some entry)) (sym p.2.0) h), p.3)
 
-    changes : (answer : Result A StoreFault) (made : Option Entry) → InRoom answer made → changed old.cache bytes made ≡ changed old.cache others made
+    changes : (answer : Result A StoreFault) (made : Option Entry) → InRoom old entry value answer made → changed old.cache bytes made ≡ changed old.cache others made
     changes answer made p = same_change made (no_room_for old.cache.index (past_of old.steps) p.1) p.0 p.1 answer p.2.1 p.3
 
     becomes : (made : Option Entry) → changed old.cache bytes made ≡ changed old.cache others made → Becomes old bytes new made → Becomes old others new made
     becomes None same is = is
     becomes (Some e) same is = (is.0 ∙ same, is.1)
 
-    makes : (answer : Result A StoreFault) → Makes old bytes new InRoom answer → Makes old others new Whole answer
+    makes : (answer : Result A StoreFault) → Makes old bytes new (InRoom old entry value) answer → Makes old others new Whole answer
     makes answer m = (m.0, m.1, answers answer m.1 m.2, becomes m.1 (changes answer m.1 m.2) m.3)
 
-    pub gives : (answer : Result A StoreFault) → Gives old bytes new InRoom answer → Gives old others new Whole answer
+    pub gives : (answer : Result A StoreFault) → Gives old bytes new (InRoom old entry value) answer → Gives old others new Whole answer
     gives (Ok got) m = makes (Ok got) m
     gives (Err (Broken faults)) m = m
     gives (Err UnknownSpace) m = makes (Err UnknownSpace) m
@@ -127,6 +125,9 @@ module _ {D A : Type 0} (old new : BookView D) (bytes : List ℕ) (entry : Entry
     gives (Err NoMemory) m = m
     gives (Err DiskFailed) m = (m.0, m.1, m.2, m.3, m.4, answers (Ok m.1) (Some m.2) m.5, m.6 ∙ changes (Ok m.1) (Some m.2) m.5, m.7)
     gives (Err (Damaged hash found)) m = makes (Err (Damaged hash found)) m
+
+pub room_failed : {D A : Type 0} (old new : BookView D) (bytes : List ℕ) (entry : Entry) (value : A) → no_room old.cache.index (past_of old.steps) entry ≡ None → (fault : StoreFault) → Commits old entry bytes new (Err fault) → Gives old bytes new (InRoom old entry value) (Err fault)
+room_failed old new bytes entry value room fault made = not_committed old new bytes entry value (InRoom old entry value) (in_room old entry value room) fault made
 
 -- ---- limits
 

@@ -32,7 +32,7 @@ use Rattle.ddc_model.proofs.Bytes.{bytes_kept}
 use Rattle.ddc_book.specs.Opening.{length_of, IsBody, Leads, Opens}
 use Rattle.ddc_book.specs.View.{BookView, limits_of, line_of, faults_of, IsBook, IsHistory, IsHonest, IsStored, OpensSome}
 use Rattle.ddc_book.specs.Calls.{bytes_or_none, Breaks, GoesOn}
-use Rattle.ddc_book.specs.Making.{Brings, IsFit}
+use Rattle.ddc_book.specs.Making.{Brings, IsFit, Serves}
 use Rattle.ddc_book.proofs.Steps.{after_more, broken_more, unbroken_behind, lawful_more}
 
 -- ---- limits stay
@@ -94,6 +94,10 @@ module _ {D : Type 0} (tells : Bool) (meaning : D → Meaning) (book : BookView 
             let now_first = (lending.each_now first second blobs (rests book.devices.first) (rests book.devices.second) (rests book.devices.blobs) im now).0 in
             inl (record { holds = record { generation = stored.generation; bodies = stored.bodies; loads = stored.ready.each im.first now_first; leads = stored.leads }; whole = kept.whole }));
       }
+
+pub serves : {D : Type 0} (tells : Bool) (meaning : D → Meaning) (rests : (device : D) → Rests (meaning device).line) {seen book : BookView D} → seen ≡ book → (end : ℕ) → IsBook tells meaning seen end → broken_by book.steps ≡ None → Serves tells meaning book
+serves {D} tells meaning rests {seen} {book} same end kept unbroken = subst (Serves tells meaning) same
+    (record { unbroken = ap (λ (b : BookView D). broken_by b.steps) same ∙ unbroken; whole = kept.whole; has_bytes = kept.has_bytes; stays = stays tells meaning seen end rests kept })
 
 -- ---- an entry is made
 

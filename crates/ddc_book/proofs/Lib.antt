@@ -4,3 +4,4 @@ pub mod Kept
 pub mod Lent
 pub mod Lengths
 pub mod Giving
+pub mod Absent

@@ -2,6 +2,7 @@
 use Rattle.std.specs.Prelude.{◌≡◌, ℕ, Bool, true, List, length, Option, None, Some, if◌then◌else◌, ⊤}
 use Rattle.std.specs.FinMap.{len}
 use Rattle.ddc_disk.specs.Disk.{Meaning}
+use Rattle.ddc_names.specs.declared.reference.RefName.{RefName}
 use Rattle.ddc_model.specs.declared.rows.BlobName.{BlobName}
 use Rattle.ddc_model.specs.declared.entry.Stored.{Stored}
 use Rattle.ddc_model.specs.declared.entry.Entry.{Entry}
@@ -13,8 +14,9 @@ use Rattle.ddc_model.specs.State.{State, blob_name}
 use Rattle.ddc_model.specs.Entries.{after, legal}
 use Rattle.ddc_model.specs.Counts.{fresh_of, link_count, added_blobs, added_links, passes}
 use Rattle.ddc_model.specs.Sound.{Cache, AreWhole, HasBytes, IsSound}
-use Rattle.ddc_model.specs.Commands.{changed}
-use Rattle.ddc_model.specs.History.{broken_by, IsLawful}
+use Rattle.ddc_model.specs.Commands.{changed, touch_entry}
+use Rattle.ddc_model.specs.History.{broken_by, no_room_for, IsLawful, Past}
+use Rattle.ddc_model.specs.Reads.{where_room}
 use Rattle.ddc_book.specs.View.{BookView}
 use Rattle.ddc_book.specs.Calls.{bytes_or_none, GoesOn}
 
@@ -76,3 +78,7 @@ full_by s spaces fresh refs =
     if passes (len s.slots) refs s.limits.refs then Some (Full Refs s.limits.refs) else
     if passes (link_count s) (added_links fresh) s.limits.links then Some (Full Links s.limits.links) else
     None
+
+-- the touch of a reference that is read, where the history has room for it
+abbrev pub touch_with_room : State → Past → RefName → ℕ → Option Entry
+touch_with_room s past name hour = where_room (no_room_for s past (touch_entry s name hour)) (touch_entry s name hour)
