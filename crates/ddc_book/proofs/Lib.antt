@@ -5,3 +5,7 @@ pub mod Lent
 pub mod Lengths
 pub mod Giving
 pub mod Absent
+pub mod Uploads
+pub mod Putting
+pub mod Reading
+pub mod Fitting
