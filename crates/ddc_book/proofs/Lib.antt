@@ -9,3 +9,4 @@ pub mod Uploads
 pub mod Putting
 pub mod Reading
 pub mod Fitting
+pub mod Deleting

@@ -163,3 +163,12 @@ module _ (s : State) (name : RefName) (hash : IoHash) (hour : ℕ) where
   finalise_makes is needs are none now later =
       subst (λ (known : Result Bool StoreFault). FinaliseWhere known s name hash hour (Ok needs) (Some (Finalise name hash now))) (sym is)
       (needs, are, refl, (λ i. Some (Finalise name hash (later i))) ∙ sym (λ i. if is_none needs none i then Some (Finalise name hash (hour_of s hour)) else None))
+
+  is_some_need : (needs : List IoHash) → (length needs ≡ 0 → ⊥) → is_empty needs ≡ false
+  is_some_need [] some = absurd (some refl)
+  is_some_need (x ∷ xs) some = refl
+
+  pub finalise_waits : is_done s name hash ≡ Ok false → (needs : List IoHash) → AreNeeds (links_in s name.space) hash needs → (length needs ≡ 0 → ⊥) → FinaliseAs s name hash hour (Ok needs) None
+  finalise_waits is needs are some =
+      subst (λ (known : Result Bool StoreFault). FinaliseWhere known s name hash hour (Ok needs) None) (sym is)
+      (needs, are, refl, sym (λ i. if is_some_need needs some i then Some (Finalise name hash (hour_of s hour)) else None))

@@ -1,6 +1,6 @@
 -- What reading a reference gives.
-use Rattle.std.specs.Prelude.{◌≡◌, ℕ, Bool, true, false, List, [], Option, None, Some, Result, Ok, Err, if◌then◌else◌, option_map, refl}
-use Rattle.std.proofs.Common.{ap, sym, ◌∙◌, subst}
+use Rattle.std.specs.Prelude.{◌≡◌, ℕ, Bool, true, false, List, [], Option, None, Some, Result, Ok, Err, if◌then◌else◌, option_map, ◌⊎◌, refl}
+use Rattle.std.proofs.Common.{ap, sym, ◌∙◌, subst, inl, inr}
 use Rattle.std.specs.FinMap.{get}
 use Rattle.ddc_names.specs.declared.hash.IoHash.{IoHash}
 use Rattle.ddc_names.specs.declared.reference.RefName.{RefName}
@@ -9,7 +9,7 @@ use Rattle.cb_fields.specs.declared.links.LinkKind.TheVariants.{Object}
 use Rattle.ddc_model.specs.declared.rows.Blob.{Blob}
 use Rattle.ddc_model.specs.declared.entry.Entry.{Entry}
 use Rattle.ddc_model.specs.declared.fault.StoreFault.{StoreFault}
-use Rattle.ddc_model.specs.declared.fault.StoreFault.TheVariants.{UnknownSpace, NotFound, NotFinalised}
+use Rattle.ddc_model.specs.declared.fault.StoreFault.TheVariants.{UnknownSpace, NotFound, NotFinalised, NoMemory, Damaged}
 use Rattle.ddc_model.specs.State.{State, blob_name, blob_at, has_space}
 use Rattle.ddc_model.specs.Closure.{links_in, IsMissing, IsWhole}
 use Rattle.ddc_model.specs.Sound.{Cache, AreWhole, HasBytes}
@@ -17,7 +17,9 @@ use Rattle.ddc_model.specs.Commands.{done_hash, done_at, found, object_of, touch
 use Rattle.ddc_model.specs.History.{no_room, no_room_for, Past}
 use Rattle.ddc_model.specs.Reads.{HeldAs, serve, served, undamaged, where_room, ServedWhere}
 use Rattle.ddc_model.proofs.Maps.{same_some}
-use Rattle.ddc_book.specs.Making.{touch_with_room}
+use Rattle.ddc_model.specs.Content.{named}
+use Rattle.ddc_model.specs.Entries.{same_hash}
+use Rattle.ddc_book.specs.Making.{touch_with_room, IsRefusal}
 
 module _ (cache : Cache) (whole : AreWhole cache.index) (has : HasBytes cache) (name : RefName) where
   -- a whole closure has its root
@@ -65,6 +67,20 @@ module _ (cache : Cache) (whole : AreWhole cache.index) (has : HasBytes cache) (
   pub serves_found : (hash : IoHash) (bytes : List ℕ) → object_of cache.index name ≡ Ok hash → get cache.bytes (blob_name name.space hash) ≡ Some bytes → serve cache name.space hash ≡ undamaged hash bytes
   serves_found hash bytes is there = λ i. served hash (if known_space hash is i then found (there i) else Err UnknownSpace)
 
+fault_of : {A : Type 0} → Result A StoreFault → StoreFault
+fault_of (Ok a) = NoMemory
+fault_of (Err fault) = fault
+
+same_fault : (fault other : StoreFault) → (let answer : Result (List ℕ) StoreFault = Err fault in answer ≡ Err other) → fault ≡ other
+same_fault fault other e = ap (λ (r : Result (List ℕ) StoreFault). fault_of r) e
+
+pub is_memory : (fault : StoreFault) → (let answer : Result (List ℕ) StoreFault = Err fault in answer ≡ Err NoMemory) → fault ≡ NoMemory
+is_memory fault e = same_fault fault NoMemory e
+
+pub was_served : (bytes : List ℕ) (answer : Result (List ℕ) StoreFault) → (Ok bytes ≡ Err NoMemory) ⊎ (Ok bytes ≡ answer) → Ok bytes ≡ answer
+was_served bytes answer (inl e) = absurd (cc)
+was_served bytes answer (inr e) = e
+
 module _ (cache : Cache) (whole : AreWhole cache.index) (has : HasBytes cache) (past : Past) (name : RefName) (hour : ℕ) where
   pub held_refused : (fault : StoreFault) → object_of cache.index name ≡ Err fault → HeldAs cache past name hour (Err fault) None
   held_refused fault is = (Err fault, None, get_refused cache whole has name hour fault is, (refl, refl))
@@ -75,6 +91,15 @@ module _ (cache : Cache) (whole : AreWhole cache.index) (has : HasBytes cache) (
         let got = gets cache whole has name hour hash is in
         (Ok (hash, got.0), touch_entry cache.index name hour, got.2,
         subst (λ (r : Result (List ℕ) StoreFault). ServedWhere r cache.index past hash (touch_entry cache.index name hour) (Err fault) None) (bad ∙ serves_found cache whole has name hash got.0 is got.1) (refl, refl))
+
+    -- what stands in the way is that the bytes are damaged
+    pub is_refusal : (fault : StoreFault) → Err fault ≡ serve cache name.space hash → IsRefusal fault
+    is_refusal fault bad =
+        let got = gets cache whole has name hour hash is in
+        by_test (same_hash (named got.0) hash) got.0 (bad ∙ serves_found cache whole has name hash got.0 is got.1) where
+          by_test : (same : Bool) (bytes : List ℕ) → Err fault ≡ (if same then Ok bytes else Err (Damaged hash (named bytes))) → IsRefusal fault
+          by_test true bytes e = absurd (cc)
+          by_test false bytes e = subst IsRefusal (sym (same_fault fault (Damaged hash (named bytes)) e)) tt
 
     pub held_served : (bytes : List ℕ) → Ok bytes ≡ serve cache name.space hash → (made : Option Entry) → made ≡ touch_with_room cache.index past name hour → HeldAs cache past name hour (Ok (hash, bytes)) made
     held_served bytes good made touched =

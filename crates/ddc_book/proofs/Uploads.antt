@@ -1,5 +1,5 @@
 -- What storing a blob gives.
-use Rattle.std.specs.Prelude.{◌≡◌, ℕ, ◌<◌, Bool, true, false, List, Option, None, Some, is_some, Result, Ok, Err, nat_lt, if◌then◌else◌, option_map, refl}
+use Rattle.std.specs.Prelude.{◌≡◌, ℕ, ◌<◌, ◌≤◌, Bool, true, false, List, Option, None, Some, is_some, Result, Ok, Err, nat_lt, if◌then◌else◌, option_map, refl}
 use Rattle.std.proofs.Common.{ap, sym, ◌∙◌, subst, arith}
 use Rattle.std.proofs.lemmas.Bool.Decides.{nat_tests}
 use Rattle.ddc_names.specs.declared.hash.IoHash.{IoHash}
@@ -54,6 +54,20 @@ module _ (s : State) (space : List ℕ) (content : Content) (hour : ℕ) where
         uploads known (Some blob) e (Ok tt) (Some (Repin space hash now))
         (subst (λ (b : Bool). EntryWhere (with_room s (if b then Some (Repin space (named content.bytes) (hour_of s hour)) else None)) (Ok tt) (Some (Repin space hash now))) (sym test)
         (refl, λ i. Some (Repin space (is i) (later i))))
+
+not_before : (a b : ℕ) → b ≤ a → nat_lt a b ≡ false
+not_before a b h = grind (arith, nat_tests)
+
+-- a blob that was stored or named no earlier is not pinned
+module _ (s : State) (space : List ℕ) (content : Content) (hour : ℕ) where
+  pub upload_nothing : has_space s space ≡ true → (at : ℕ) → AtFound s space content hour (blob_at s space (named content.bytes)) at → (now : ℕ) → now ≡ hour_of s hour → now ≤ at → UploadAs s space content hour (Ok tt) None
+  upload_nothing known at there now later le = by_cases (blob_at s space (named content.bytes)) refl there where
+    by_cases : (found : Option Blob) → blob_at s space (named content.bytes) ≡ found → AtFound s space content hour found at → UploadAs s space content hour (Ok tt) None
+    by_cases None e f = absurd (cc)
+    by_cases (Some blob) e f =
+        let test : nat_lt blob.row.at (hour_of s hour) ≡ false = ap (λ (n : ℕ). nat_lt n (hour_of s hour)) (same_some blob.row.at at f) ∙ ap (nat_lt at) (sym later) ∙ not_before at now le in
+        uploads s space content hour known (Some blob) e (Ok tt) None
+        (subst (λ (b : Bool). EntryWhere (with_room s (if b then Some (Repin space (named content.bytes) (hour_of s hour)) else None)) (Ok tt) None) (sym test) (refl, refl))
 
 none_there : {A B : Type 0} (f : A → B) (o : Option A) → option_map f o ≡ None → o ≡ None
 none_there f None e = refl
