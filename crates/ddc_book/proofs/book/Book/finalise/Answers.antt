@@ -1,4 +1,4 @@
-use Rattle.std.proofs.Common.{◌≡◌, sym, subst, [], Ok, None, List}
+use Rattle.std.proofs.Common.{◌≡◌, ap, sym, ◌∙◌, subst, [], Ok, None, List, Bool}
 use Rattle.ddc_names.specs.declared.hash.IoHash.{IoHash}
 use Rattle.ddc_model.specs.Commands.{FinaliseAs}
 use Rattle.ddc_book.proofs.Giving.{refuses, makes_none}
@@ -14,4 +14,4 @@ pub returns-in-Ok-true-clause-gives : goal.returns-in-Ok-true-clause-gives
 returns-in-Ok-true-clause-gives g c =
     let s = c.args.self.now.cache.index in
     makes_none c.args.self.now [] (FinaliseAs s c.args.name.now c.args.hash c.args.hour) (sym c.in_default.ensures.count) c.new.result
-    (subst (λ (l : List IoHash). FinaliseAs s c.args.name.now c.args.hash c.args.hour (Ok l) None) (sym c.new.ensures) (finalise_again s c.args.name.now c.args.hash c.args.hour (sym c.in-Ok-true.ensures.done)))
+    (subst (λ (l : List IoHash). FinaliseAs s c.args.name.now c.args.hash c.args.hour (Ok l) None) (sym c.new.ensures) (finalise_again s c.args.name.now c.args.hash c.args.hour (sym c.in-Ok-true.ensures.done ∙ ap (λ (b : Bool). Ok b) c.in-Ok-true.field-0-test)))
