@@ -32,6 +32,10 @@ made_or_none cache bytes next Given (Err NotFinalised) h = inl h
 made_or_none cache bytes next Given (Err NotPending) h = inl h
 made_or_none cache bytes next Given (Err (Full what limit)) h = inl h
 made_or_none cache bytes next Given (Err faults.NoMemory) h = inr refl
+made_or_none cache bytes next Given (Err (faults.Broken count)) h = absurd h
+made_or_none cache bytes next Given (Err (faults.HistoryFull entries links)) h = absurd h
+made_or_none cache bytes next Given (Err faults.DiskFailed) h = absurd h
+made_or_none cache bytes next Given (Err (faults.Damaged named other)) h = absurd h
 
 -- a fault told apart from another
 pub fault_is : {A : Type 0} (fault other : StoreFault) → ◌≡◌ {A = Result A StoreFault} (Err fault) (Err other) → fault ≡ other
