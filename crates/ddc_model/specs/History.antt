@@ -73,16 +73,6 @@ AreLawful faults s (Loaded limits count ∷ steps) = ⊥
 AreLawful faults s (Change entry ∷ steps) = IsLawful s entry × AreLawful faults (after s entry) steps
 AreLawful faults s (Broke changed before now ∷ steps) = (faults ≤ before) × (min (before + 1) (2 ^ 64 - 1) ≤ now) × (steps ≡ [])
 
--- a store was opened within these limits with some changes, has made lawful steps since, and all of
--- them leave this state
-pub record IsHistory (limits : Limits) (steps : List Step) (s : State) : Type 0 where
-  pub opened : List Step
-  pub faults : ℕ
-  pub made : List Step
-  pub split : steps ≡ opened ++ Loaded limits faults ∷ made
-  pub lawful : AreLawful faults (after_steps (empty_state limits) opened) made
-  pub leaves : s ≡ after_steps (empty_state limits) steps
-
 -- ---- when the history has no room
 
 abbrev pub no_room : State → Past → Entry → Option StoreFault

@@ -1,0 +1,5 @@
+pub mod Opening
+pub mod View
+pub mod Calls
+pub mod Loading
+pub mod Laws

@@ -1,0 +1,73 @@
+-- A book as its callers see it, and what its type keeps.
+use Rattle.std.specs.Prelude.{◌≡◌, ℕ, ◌≤◌, Bool, IsTrue, List, [], ◌∷◌, ◌++◌, length, take, None, IfSome}
+use Rattle.ddc_disk.specs.Disk.{Timeline, Meaning}
+use Rattle.ddc_disk.specs.Images.{Images, devices_line, devices_faults}
+use Rattle.ddc_disk.specs.declared.devices.Devices.{Devices}
+use Rattle.ddc_journal.specs.Journal.{IsReady}
+use Rattle.ddc_model.specs.declared.rows.Limits.{Limits}
+use Rattle.ddc_model.specs.declared.entry.Step.{Step}
+use Rattle.ddc_model.specs.declared.entry.Step.TheVariants.{Loaded}
+use Rattle.ddc_model.specs.State.{State, empty_state}
+use Rattle.ddc_model.specs.Sound.{Cache, empty_cache, HasBytes, AreWhole, IsSound}
+use Rattle.ddc_model.specs.History.{after_steps, broken_by, AreLawful}
+use Rattle.ddc_book.specs.Opening.{Leads, Opens}
+
+-- the devices, the state with its bytes, the history, and the moment of the opening
+pub record BookView (D : Type 0) : Type 0 where
+  pub devices : Devices D
+  pub cache : Cache
+  pub steps : List Step
+  pub opened : ℕ
+
+abbrev pub limits_of : {D : Type 0} → BookView D → Limits
+limits_of book = book.cache.index.limits
+
+-- the joint images of its devices
+abbrev pub line_of : {D : Type 0} → (D → Meaning) → BookView D → Timeline Images
+line_of meaning book = devices_line meaning book.devices
+
+-- the count of their faults
+abbrev pub faults_of : {D : Type 0} → (D → Meaning) → BookView D → ℕ
+faults_of meaning book = devices_faults meaning book.devices
+
+-- a store was opened within these limits, its steps since are lawful, and all of them leave this
+-- state; the devices' count of faults is `count`
+pub record IsHistory (limits : Limits) (steps : List Step) (s : State) (count : ℕ) : Type 0 where
+  pub opened : List Step
+  pub faults : ℕ
+  pub made : List Step
+  pub split : steps ≡ opened ++ Loaded limits faults ∷ made
+  pub lawful : AreLawful faults (after_steps (empty_state limits) opened) made
+  pub leaves : s ≡ after_steps (empty_state limits) steps
+  pub later : faults ≤ count
+  pub broken : IfSome (broken_by steps) (λ now. now ≤ count)
+
+-- each crash now leaves a journal whose bodies lead to this cache; its closing gate stands at `end`
+pub record IsStored (first : Meaning) (limits : Limits) (cache : Cache) (end : ℕ) : Type 0 where
+  pub generation : ℕ
+  pub bodies : List (List ℕ)
+  pub ready : IsReady first generation bodies end
+  pub leads : Leads (empty_cache limits) bodies cache
+
+-- the premise: the disks tell what they hold, and at the opening each crash left a sound state
+pub record IsHonest (tells : Bool) (line : Timeline Images) (limits : Limits) (opened : ℕ) : Type 0 where
+  pub told : IsTrue tells
+  pub sound : (im : Images) → line.left opened im → (state : Cache) × Opens limits im state × IsSound state
+
+-- it opens to a sound state whose index is what the first of the steps leave
+pub record OpensSome (limits : Limits) (steps : List Step) (im : Images) : Type 0 where
+  pub n : ℕ
+  pub within : n ≤ length steps
+  pub state : Cache
+  pub opens : Opens limits im state
+  pub index : state.index ≡ after_steps (empty_state limits) (take n steps)
+  pub sound : IsSound state
+
+pub record IsBook {D : Type 0} (tells : Bool) (meaning : D → Meaning) (book : BookView D) (end : ℕ) : Type 0 where
+  pub history : IsHistory (limits_of book) book.steps book.cache.index (faults_of meaning book)
+  pub has_bytes : HasBytes book.cache
+  pub whole : AreWhole book.cache.index
+  pub time : book.opened ≤ (line_of meaning book).moment
+  pub now : IsTrue tells → broken_by book.steps ≡ None → IsStored (meaning book.devices.first) (limits_of book) book.cache end
+  pub sound : IsHonest tells (line_of meaning book) (limits_of book) book.opened → IsSound book.cache
+  pub since : IsHonest tells (line_of meaning book) (limits_of book) book.opened → (t : ℕ) (im : Images) → book.opened ≤ t → (line_of meaning book).left t im → OpensSome (limits_of book) book.steps im
