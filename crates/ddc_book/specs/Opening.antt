@@ -1,11 +1,5 @@
 -- What the devices of a store open to.
 use Rattle.std.specs.Prelude.{◌≡◌, ◌⊎◌, ℕ, true, List, [], ◌∷◌, ◌++◌, length, Option, None, Some}
-use Rattle.std.specs.FinMap.{get}
-use Rattle.std.specs.declared.cmp.Ordering.TheVariants.{Less}
-use Rattle.ddc_names.specs.declared.hash.IoHash.{IoHash}
-use Rattle.ddc_names.specs.declared.reference.RefName.{RefName}
-use Rattle.ddc_names.specs.Orders.{ref_name_cmp}
-use Rattle.ref_store.specs.declared.slot.Slot.{Slot}
 use Rattle.ddc_disk.specs.Images.{Images}
 use Rattle.ddc_journal.specs.Journal.{spelled, Loads}
 use Rattle.ddc_journal.specs.Faults.{FaultOf}
@@ -15,9 +9,8 @@ use Rattle.ddc_model.specs.declared.entry.Stored.{Stored}
 use Rattle.ddc_model.specs.declared.entry.Entry.{Entry}
 use Rattle.ddc_model.specs.State.{State}
 use Rattle.ddc_model.specs.Entries.{legal}
-use Rattle.ddc_model.specs.Closure.{links_in, IsWhole}
 use Rattle.ddc_model.specs.Counts.{fresh_of}
-use Rattle.ddc_model.specs.Sound.{Cache, empty_cache, AreWhole}
+use Rattle.ddc_model.specs.Sound.{Cache, empty_cache, AreWhole, IsFirstUnsound}
 use Rattle.ddc_model.specs.Commands.{changed}
 use Rattle.ddc_entry.specs.Spelling.{spelling, IsEntry}
 use Rattle.ddc_book.specs.declared.fault.OpenFault.{OpenFault}
@@ -70,15 +63,6 @@ pub record HasNoChangeAt (limits : Limits) (file : List ℕ) (at : ℕ) : Type 0
   pub leads : Leads (empty_cache limits) good cache
   pub no_change : IsNoChange cache.index bad
   pub place : at ≡ length (spelled generation good)
-
--- the first reference, by name, that is finalised while a blob of its closure isn't there
-pub record IsFirstUnsound (s : State) (name : RefName) : Type 0 where
-  pub slot : Slot
-  pub hash : IoHash
-  pub there : get s.slots name ≡ Some slot
-  pub done : slot.done ≡ Some hash
-  pub lacks : IsWhole (links_in s name.space) hash → ⊥
-  pub first : (other : RefName) (slot : Slot) (hash : IoHash) → ref_name_cmp other name ≡ Less → get s.slots other ≡ Some slot → slot.done ≡ Some hash → IsWhole (links_in s other.space) hash
 
 -- the cause of each fault in the bytes: DiskFailed has none there, and want of memory needs none
 abbrev pub OpenFaultOf : Limits → List ℕ → OpenFault → Type 0

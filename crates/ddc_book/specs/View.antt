@@ -1,5 +1,8 @@
 -- A book as its callers see it, and what its type keeps.
 use Rattle.std.specs.Prelude.{◌≡◌, ℕ, ◌≤◌, Bool, IsTrue, List, [], ◌∷◌, ◌++◌, length, take, None, IfSome}
+use Rattle.std.specs.FinMap.{FinMap, code}
+use Rattle.std.specs.Coded.{Coded}
+use Rattle.ddc_names.specs.Orders.{coded_name}
 use Rattle.ddc_disk.specs.Disk.{Timeline, Meaning}
 use Rattle.ddc_disk.specs.Images.{Images, devices_line, devices_faults}
 use Rattle.ddc_disk.specs.declared.devices.Devices.{Devices}
@@ -7,10 +10,15 @@ use Rattle.ddc_journal.specs.Journal.{IsReady}
 use Rattle.ddc_model.specs.declared.rows.Limits.{Limits}
 use Rattle.ddc_model.specs.declared.entry.Step.{Step}
 use Rattle.ddc_model.specs.declared.entry.Step.TheVariants.{Loaded}
+use Rattle.ddc_model.specs.Keys.{blob_cmp, coded_blob_name}
 use Rattle.ddc_model.specs.State.{State, empty_state}
 use Rattle.ddc_model.specs.Sound.{Cache, empty_cache, HasBytes, AreWhole, IsSound}
 use Rattle.ddc_model.specs.History.{after_steps, broken_by, AreLawful}
 use Rattle.ddc_book.specs.Opening.{Leads, Opens}
+
+-- the bytes of each blob
+abbrev pub coded_bytes : Coded (FinMap blob_cmp (List ℕ))
+coded_bytes = code coded_blob_name coded_name
 
 -- the devices, the state with its bytes, the history, and the moment of the opening
 pub record BookView (D : Type 0) : Type 0 where

@@ -20,7 +20,7 @@ impl Model for ByteTable {
     ghost use Rattle.std.specs.Prelude.{ℕ, List};
     ghost use Rattle.std.specs.FinMap as map;
     ghost use Rattle.ddc_model.specs.Keys.{blob_cmp};
-    ghost use Rattle.memory_store.specs.Views.{coded_bytes};
+    ghost use Rattle.ddc_book.specs.View.{coded_bytes};
 
     ghost Value = { map.FinMap blob_cmp (List ℕ) };
 
