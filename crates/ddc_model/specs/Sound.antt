@@ -1,8 +1,10 @@
 -- When a state and the bytes of its blobs are sound.
-use Rattle.std.specs.Prelude.{◌≡◌, ℕ, Bool, List, length, Some, IsSome}
+use Rattle.std.specs.Prelude.{◌≡◌, ℕ, Bool, List, length, Option, None, Some, IsSome}
 use Rattle.std.specs.FinMap.{FinMap, get, empty}
+use Rattle.std.specs.declared.cmp.Ordering.TheVariants.{Less}
 use Rattle.ddc_names.specs.declared.hash.IoHash.{IoHash}
 use Rattle.ddc_names.specs.declared.reference.RefName.{RefName}
+use Rattle.ddc_names.specs.Orders.{ref_name_cmp}
 use Rattle.ref_store.specs.declared.slot.Slot.{Slot}
 use Rattle.ddc_model.specs.declared.rows.Blob.{Blob}
 use Rattle.ddc_model.specs.declared.rows.BlobName.{BlobName}
@@ -35,6 +37,20 @@ pub record HasBytes (cache : Cache) : Type 0 where
 -- of each finalised object the whole closure is there
 abbrev pub AreWhole : State → Type 0
 AreWhole s = (name : RefName) (slot : Slot) (hash : IoHash) → get s.slots name ≡ Some slot → slot.done ≡ Some hash → IsWhole (links_in s name.space) hash
+
+-- the first reference, by name, that is finalised while a blob of its closure isn't there
+pub record IsFirstUnsound (s : State) (name : RefName) : Type 0 where
+  pub slot : Slot
+  pub hash : IoHash
+  pub there : get s.slots name ≡ Some slot
+  pub done : slot.done ≡ Some hash
+  pub lacks : IsWhole (links_in s name.space) hash → ⊥
+  pub first : (other : RefName) (slot : Slot) (hash : IoHash) → ref_name_cmp other name ≡ Less → get s.slots other ≡ Some slot → slot.done ≡ Some hash → IsWhole (links_in s other.space) hash
+
+-- the first such, and none where there is none
+abbrev pub FirstUnsound : State → Option RefName → Type 0
+FirstUnsound s (Some name) = IsFirstUnsound s name
+FirstUnsound s None = AreWhole s
 
 -- each blob has its bytes; and of each finalised object the whole closure is there
 pub record IsSound (cache : Cache) : Type 0 where
