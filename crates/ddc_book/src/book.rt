@@ -1,10 +1,11 @@
 //! The book: what it holds, and what is looked up in it.
 
-ghost use Rattle.std.specs.Prelude.{◌≡◌, length, is_some, option_copied};
-ghost use Rattle.std.specs.FinMap as map;
-ghost use Rattle.ddc_model.specs.State.{has_space};
-ghost use Rattle.ddc_model.specs.Commands.{hour_of};
-ghost use Rattle.ddc_book.specs.View.{faults_of};
+ghost use Rattle.std.specs.Prelude.{◌≡◌, length, IsTrue, None};
+ghost use Rattle.ddc_disk.specs.Disk.{EachImage};
+ghost use Rattle.ddc_disk.specs.Images.{devices_line};
+ghost use Rattle.ddc_model.specs.History.{broken_by};
+ghost use Rattle.ddc_book.specs.Opening.{Opens};
+ghost use Rattle.ddc_book.specs.View.{faults_of, limits_of};
 
 use crate::bytes::ByteTable;
 use crate::history::History;
@@ -40,9 +41,10 @@ impl<D: Disk> Model for Book<D> {
 }
 
 impl<D: Disk> Book<D> {
-    /// Gives the devices back.
+    /// Gives the devices back. Where no disk failed, a crash now leaves devices that open to the book's state.
     pub fn into_devices(self) -> Devices<D>
-        ensures { result ≡ self.devices }
+        ensures devices { result ≡ self.devices }
+        ensures opens { IsTrue D.tells → broken_by self.steps ≡ None → EachImage (devices_line D.meaning result) (λ im. Opens (limits_of self) im self.cache) }
     {
         let Book { devices, .. } = self;
         devices.into_devices()
