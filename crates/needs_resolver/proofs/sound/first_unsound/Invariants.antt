@@ -1,0 +1,12 @@
+use Rattle.std.proofs.Common.{◌≡◌}
+use Rattle.needs_resolver.specs.Unsound.{AreWholeUpTo, count_behind}
+use Rattle.needs_resolver.proofs.sound.first_unsound.Given as goal
+
+abbrev pub invariant-loop-name : goal.invariant-loop-name
+invariant-loop-name l = record {
+  same : l.index.state ≡ l.fn.index.state;
+  whole : AreWholeUpTo l.fn.index.state l.last;
+}
+
+abbrev pub decreases-loop-name : goal.decreases-loop-name
+decreases-loop-name l = count_behind l.fn.index.state.slots l.last
