@@ -1,23 +1,24 @@
 -- Looking at one reference after another.
-use Rattle.std.specs.Prelude.{◌≡◌, ℕ, ◌+◌, ◌≤◌, nat_lt, Bool, true, false, ◌||◌, cond, List, [], ◌∷◌, Option, None, Some, length, refl}
+use Rattle.std.specs.Prelude.{◌≡◌, ℕ, ◌+◌, ◌≤◌, ◌↔◌, Bool, true, false, ◌||◌, not, cond, IsTrue, List, [], ◌∷◌, Option, None, Some, length, refl}
 use Rattle.std.proofs.Common.{ap, sym, ◌∙◌, subst, arith}
-use Rattle.std.proofs.lemmas.Bool.{lt-ltb}
 use Rattle.std.specs.List.{filter}
 use Rattle.std.specs.FinMap.{get, find, entries, get-entries}
 use Rattle.std.specs.declared.cmp.Ordering.{Ordering}
 use Rattle.std.specs.declared.cmp.Ordering.TheVariants.{Less, Equal, Greater}
 use Rattle.std.specs.Ordering.{is_eq, is_lt, eq_by_cmp, ordering_reverse}
-use Rattle.ddc_names.specs.Orders.{ref_name_cmp, ref_name_total, ref_name_exact}
+use Rattle.ddc_names.specs.Orders.{name_cmp, name_exact, ref_name_cmp, ref_name_total, ref_name_exact}
 use Rattle.ddc_names.specs.declared.hash.IoHash.{IoHash}
 use Rattle.ddc_names.specs.declared.reference.RefName.{RefName}
 use Rattle.ref_store.specs.declared.slot.Slot.{Slot}
 use Rattle.ref_store.specs.Slots.{Slots}
 use Rattle.ref_store.specs.Nexts.{is_behind, IsNext, Next}
 use Rattle.ddc_model.specs.State.{State}
-use Rattle.ddc_model.specs.Closure.{links_in, IsMissing, IsWhole, AreNeeds, has_hash}
+use Rattle.ddc_model.specs.Closure.{Links, links_in, object, IsWhole, has_hash}
 use Rattle.ddc_model.specs.Sound.{AreWhole, IsFirstUnsound}
-use Rattle.needs_resolver.specs.Unsound.{IsWholeAt, Lacks, AreWholeUpTo, count_behind}
+use Rattle.needs_resolver.specs.Walking.{Met, IsIdle, IsMet, AreRead}
+use Rattle.needs_resolver.specs.Unsound.{IsWholeAt, Lacks, AreWholeUpTo, IsIdleAfter, count_behind}
 use Rattle.needs_resolver.proofs.Meeting.{tied_itself}
+use Rattle.needs_resolver.proofs.Reading.{lacks_it, whole_then, idle_then}
 
 -- ---- what is known of the references that were looked at
 
@@ -122,11 +123,29 @@ fewer_listed last name slot (e ∷ es) t there = here_or_later last name slot e 
 pub fewer : (slots : Slots) (last : Option RefName) (name : RefName) (slot : Slot) → IsNext slots last name slot → count_behind slots (Some name) + 1 ≤ count_behind slots last
 fewer slots last name slot next = fewer_listed last name slot (entries slots) next.behind (sym (get-entries slots name) ∙ next.there)
 
--- ---- what the list of needs tells
+-- ---- what the walk tells
 
-pub needs_tell : (s : State) (name : RefName) (slot : Slot) (root : IoHash) (needs : List IoHash) (n : ℕ) → slot.done ≡ Some root → AreNeeds (links_in s name.space) root needs → n ≡ length needs → Lacks s name slot (nat_lt 0 n)
-needs_tell s name slot root [] n done are is = subst (λ (m : ℕ). Lacks s name slot (nat_lt 0 m)) (sym is)
-    (λ hash e missing gone. let root_is : hash ≡ root = same_some slot.done hash root e done in
-    let none : has_hash [] missing ≡ true = (are.exactly missing).1 (subst (λ (h : IoHash). IsMissing (links_in s name.space) h missing) root_is gone) in cc)
-needs_tell s name slot root (x ∷ xs) n done are is = subst (Lacks s name slot) (sym (lt-ltb 0 n (omega (arith, is))))
-    (root, done, λ whole. whole x ((are.exactly x).0 (ap (λ (b : Bool). b || has_hash xs x) (tied_itself x))))
+module _ (s : State) (name : RefName) (slot : Slot) (root : IoHash) (old begun ended : Met) (done : slot.done ≡ Some root) (idle : IsIdle (links_in s name.space) old)
+    (met : IsMet (links_in s name.space) (object root) old begun) (read : AreRead (links_in s name.space) begun ended) (none_ahead : ended.work ≡ []) where
+  abbrev base : Links
+  base = links_in s name.space
+
+  -- where no absent hash was met
+  whole_at : ((h : IoHash) → ended.absent h ≡ false) → IsWholeAt s name slot
+  whole_at none hash e = subst (IsWhole base) (same_some slot.done root hash done e) (whole_then base root old begun ended idle met read none_ahead none)
+
+  pub walk_tells : (keys : List IoHash) (b : Bool) → ((h : IoHash) → ended.absent h ≡ has_hash keys h) → (IsTrue b ↔ (length keys ≡ 0)) → Lacks s name slot (not b)
+  walk_tells [] true is empty = whole_at is
+  walk_tells [] false is empty = let no : false ≡ true = empty.1 refl in absurd (cc)
+  walk_tells (x ∷ xs) true is empty = absurd (omega (arith, empty.0 refl))
+  walk_tells (x ∷ xs) false is empty = (root, done, lacks_it base root old begun ended idle met read none_ahead x (is x ∙ ap (λ (b : Bool). b || has_hash xs x) (tied_itself x)))
+
+  pub walk_goes_on : (keys : List IoHash) (b : Bool) → ((h : IoHash) → ended.absent h ≡ has_hash keys h) → (IsTrue b ↔ (length keys ≡ 0)) → not b ≡ false → IsIdle base ended
+  walk_goes_on [] b is empty f = idle_then base root old begun ended idle met read none_ahead is
+  walk_goes_on (x ∷ xs) true is empty f = absurd (omega (arith, empty.0 refl))
+  walk_goes_on (x ∷ xs) false is empty f = absurd (cc)
+
+-- ---- from one namespace to the next
+
+pub same_space : (s : State) (last : RefName) (space : List ℕ) (met : Met) → name_cmp last.space space ≡ Equal → IsIdleAfter s (Some last) met → IsIdle (links_in s space) met
+same_space s last space met e idle = subst (λ (t : List ℕ). IsIdle (links_in s t) met) (name_exact last.space space e) idle

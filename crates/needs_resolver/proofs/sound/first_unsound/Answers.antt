@@ -1,6 +1,8 @@
 use Rattle.std.proofs.Common.{◌∙◌, ◌+◌, ◌≤◌, true, false, Some, None, ap, subst, arith, option_copied}
 use Rattle.ref_store.specs.Nexts.{IsNext}
 use Rattle.ddc_model.specs.State.{State}
+use Rattle.ddc_model.specs.Closure.{links_in}
+use Rattle.needs_resolver.specs.Walking.{IsIdle, met_of}
 use Rattle.needs_resolver.specs.Unsound.{Lacks, IsWholeAt, count_behind}
 use Rattle.needs_resolver.proofs.Unsound.{as_told, one_more, found_first, all_whole, fewer}
 use Rattle.needs_resolver.proofs.sound.first_unsound.Goals as goal
@@ -26,6 +28,7 @@ loop-name-preserved c =
     let whole : IsWholeAt state c.in-Some.name c.in-Some.slot = subst (λ (s : State). Lacks s c.in-Some.name c.in-Some.slot false) c.loop-name.invariant.same (subst (Lacks c.loop-name.index.state c.in-Some.name c.in-Some.slot) c.if-branch.false c.in_ok-lacks.ensures.lacks) in
     record {
       same = c.in_ok-lacks.ensures.same ∙ c.loop-name.invariant.same;
+      idle = subst (λ (s : State). IsIdle (links_in s c.in-Some.name.space) (met_of c.lacks.new.walk)) c.loop-name.invariant.same (c.in_ok-lacks.ensures.idle c.if-branch.false);
       whole = one_more state c.loop-name.last c.in-Some.name c.in-Some.slot next c.loop-name.invariant.whole whole;
     }
 
