@@ -5,3 +5,8 @@ pub mod Lent
 pub mod Lengths
 pub mod Giving
 pub mod Absent
+pub mod Once
+pub mod Replaying
+pub mod Opened
+pub mod Loading
+pub mod Creating
