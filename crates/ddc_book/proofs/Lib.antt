@@ -10,3 +10,8 @@ pub mod Putting
 pub mod Reading
 pub mod Fitting
 pub mod Deleting
+pub mod Once
+pub mod Replaying
+pub mod OpenedBook
+pub mod Loading
+pub mod Creating

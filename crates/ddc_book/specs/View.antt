@@ -83,6 +83,10 @@ pub record OpensSome (limits : Limits) (steps : List Step) (im : Images) : Type 
   pub index : state.index ≡ after_steps (empty_state limits) (take n steps)
   pub sound : IsSound state
 
+-- from a moment on, each image has P
+abbrev pub EachFrom : {I : Type 0} → Timeline I → ℕ → (I → Type 0) → Type 0
+EachFrom {I} line from P = (t : ℕ) (image : I) → from ≤ t → line.left t image → P image
+
 pub record IsBook {D : Type 0} (tells : Bool) (meaning : D → Meaning) (book : BookView D) (end : ℕ) : Type 0 where
   pub history : IsHistory (limits_of book) book.steps book.cache.index (faults_of meaning book)
   pub has_bytes : HasBytes book.cache

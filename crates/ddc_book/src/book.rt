@@ -1,7 +1,9 @@
 //! The book: what it holds, and what is looked up in it.
 
-ghost use Rattle.std.specs.Prelude.{◌≡◌, true, None, Some, length, is_some, IfErr, IfOk, IfSome, option_copied, option_map};
+ghost use Rattle.std.specs.Prelude.{◌≡◌, true, IsTrue, None, Some, length, is_some, IfErr, IfOk, IfSome, option_copied, option_map};
 ghost use Rattle.std.specs.FinMap as map;
+ghost use Rattle.ddc_disk.specs.Disk.{EachImage};
+ghost use Rattle.ddc_disk.specs.Images.{devices_line};
 ghost use Rattle.ddc_model.specs.declared.fault.StoreFault.TheVariants.{Full};
 ghost use Rattle.ddc_model.specs.State.{blob_at, has_space};
 ghost use Rattle.ddc_model.specs.Entries.{is_hash};
@@ -10,7 +12,8 @@ ghost use Rattle.ddc_model.specs.Counts.{added, added_links, fresh_of, passes};
 ghost use Rattle.ddc_model.specs.Commands.{hour_of, is_done, object_of, touch_entry};
 ghost use Rattle.ddc_model.specs.History.{broken_by, no_room, past_of};
 ghost use Rattle.ddc_book.specs.Making.{full_by, IsRefusal, Serves};
-ghost use Rattle.ddc_book.specs.View.{faults_of};
+ghost use Rattle.ddc_book.specs.Opening.{Opens};
+ghost use Rattle.ddc_book.specs.View.{faults_of, limits_of, IsHonest, EachFrom, OpensSome};
 
 use crate::bytes::ByteTable;
 use crate::history::{History, added_links_of};
@@ -51,9 +54,12 @@ impl<D: Disk> Model for Book<D> {
 }
 
 impl<D: Disk> Book<D> {
-    /// Gives the devices back.
+    /// Gives the devices back. Where no disk failed, a crash now leaves devices that open to the book's state; and where
+    /// they held a sound state when they were opened, each crash since leaves a sound state that some first steps leave.
     pub fn into_devices(self) -> Devices<D>
-        ensures { result ≡ self.devices }
+        ensures devices { result ≡ self.devices }
+        ensures opened { IsTrue D.tells → broken_by self.steps ≡ None → EachImage (devices_line D.meaning result) (λ im. Opens (limits_of self) im self.cache) }
+        ensures since { IsHonest D.tells (devices_line D.meaning result) (limits_of self) self.opened → EachFrom (devices_line D.meaning result) self.opened (OpensSome (limits_of self) self.steps) }
     {
         let Book { devices, .. } = self;
         devices.into_devices()

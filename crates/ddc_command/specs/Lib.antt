@@ -1,4 +1,5 @@
 pub mod Replies
 pub mod Writes
 pub mod Session
+pub mod Words
 pub mod Top

@@ -1,20 +1,35 @@
 -- What each request is answered, and what it leaves.
-use Rattle.std.specs.Prelude.{◌≡◌, ℕ, ◌+◌, ◌≤◌, ⊤, Bool, true, length, List, [], ◌∷◌, ◌++◌, Option, Some, None, Result, Ok, Err, IfSome, codes, ◌==◌}
+use Rattle.std.specs.Prelude.{◌≡◌, ℕ, ◌+◌, ◌≤◌, ⊤, Bool, true, false, length, List, [], ◌∷◌, ◌++◌, Option, Some, None, Result, Ok, Err, IfSome, ◌==◌}
 use Rattle.ddc_names.specs.declared.hash.IoHash.{IoHash}
 use Rattle.ddc_model.specs.declared.entry.Entry.{Entry}
-use Rattle.ddc_model.specs.declared.entry.Entry.TheVariants.{Space}
 use Rattle.ddc_model.specs.declared.fault.StoreFault.{StoreFault}
-use Rattle.ddc_model.specs.Limits.{standard, most_bytes}
-use Rattle.ddc_model.specs.State.{empty_state}
+use Rattle.ddc_model.specs.declared.fault.StoreFault.TheVariants.{Broken, UnknownSpace, NotFound, NotFinalised, NotPending, Full, HistoryFull, NoMemory, DiskFailed, Damaged}
+use Rattle.ddc_model.specs.Limits.{most_bytes}
 use Rattle.ddc_model.specs.Content.{Content, named}
-use Rattle.ddc_model.specs.Sound.{Cache, empty_cache}
-use Rattle.ddc_model.specs.Commands.{UploadAs, PutAs, FinaliseAs, GetAs, fetch, changed}
+use Rattle.ddc_model.specs.Sound.{Cache}
+use Rattle.ddc_model.specs.Commands.{UploadAs, PutAs, FinaliseAs, changed}
+use Rattle.ddc_model.specs.History.{Past, none_yet, with_entry, WithRoom}
+use Rattle.ddc_model.specs.Reads.{serve, HeldAs}
 use Rattle.ddc_protocol.specs.Replies.{json_reply, blob_reply, object_reply, identifier_body, needs_body, fault_reply, mismatch_body, not_object_body, unread_reply}
 use Rattle.ddc_protocol.specs.Requests.{Item, put_blob, get_blob, put_ref, get_ref, finalise, mismatch, not_object, End, closed, cut, unread, spent, most_items}
 
--- what a stream finds: the namespace `game`, and no blob or reference
-abbrev pub opened : Cache
-opened = changed (empty_cache standard) [] (Some (Space (codes "game") 24 4))
+-- a store that is open: its state with the bytes of its blobs, and how much was made since the opening
+pub record OpenStore : Type 0 where
+  pub cache : Cache
+  pub past : Past
+
+abbrev pub just_opened : Cache → OpenStore
+just_opened cache = record { cache = cache; past = none_yet }
+
+abbrev pub past_with : Past → Option Entry → Past
+past_with past (Some entry) = with_entry past entry
+past_with past None = past
+
+-- the store after the entry of a command with these bytes, where it makes one
+abbrev pub store_after : OpenStore → List ℕ → Option Entry → OpenStore
+store_after store bytes made = record { cache = changed store.cache bytes made; past = past_with store.past made }
+
+-- ---- the texts
 
 -- the reply to an upload
 abbrev pub upload_reply : Content → Bool → Result (Unit {0}) StoreFault → List ℕ
@@ -36,19 +51,57 @@ abbrev pub fetch_reply : IoHash → Bool → Result (List ℕ) StoreFault → Li
 fetch_reply hash close (Ok bytes) = blob_reply hash bytes close
 fetch_reply hash close (Err fault) = fault_reply fault close
 
--- the text of the reply to an item at this hour, and what is stored afterwards
-abbrev pub Answers : Bool → ℕ → Cache → Item → List ℕ → Cache → Type 0
-Answers close hour cache (put_blob space content) text next =
-    (answer : Result (Unit {0}) StoreFault) × (made : Option Entry) × UploadAs cache.index space content hour answer made × (text ≡ upload_reply content close answer) × (next ≡ changed cache content.bytes made)
-Answers close hour cache (get_blob space hash) text next = (text ≡ fetch_reply hash close (fetch cache space hash)) × (next ≡ cache)
-Answers close hour cache (put_ref name content) text next =
-    (answer : Result (List IoHash) StoreFault) × (made : Option Entry) × PutAs cache.index name content hour answer made × (text ≡ needs_reply close answer) × (next ≡ changed cache content.bytes made)
-Answers close hour cache (get_ref name) text next =
-    (answer : Result (IoHash × List ℕ) StoreFault) × (made : Option Entry) × GetAs cache name hour answer made × (text ≡ get_reply close answer) × (next ≡ changed cache [] made)
-Answers close hour cache (finalise name hash) text next =
-    (answer : Result (List IoHash) StoreFault) × (made : Option Entry) × FinaliseAs cache.index name hash hour answer made × (text ≡ needs_reply close answer) × (next ≡ changed cache [] made)
-Answers close hour cache (mismatch expected found) text next = (text ≡ json_reply 400 (mismatch_body expected found) close) × (next ≡ cache)
-Answers close hour cache (not_object at) text next = (text ≡ json_reply 400 (not_object_body at) close) × (next ≡ cache)
+-- ---- what each item is answered
+
+abbrev pub is_damaged : StoreFault → Bool
+is_damaged (Broken faults) = false
+is_damaged UnknownSpace = false
+is_damaged NotFound = false
+is_damaged NotFinalised = false
+is_damaged NotPending = false
+is_damaged (Full what limit) = false
+is_damaged (HistoryFull entries links) = false
+is_damaged NoMemory = false
+is_damaged DiskFailed = false
+is_damaged (Damaged name found) = true
+
+-- the answer says that a blob's bytes have another hash than its name
+abbrev pub says_damaged : {A : Type 0} → Result A StoreFault → Bool
+says_damaged (Ok a) = false
+says_damaged (Err fault) = is_damaged fault
+
+-- a command answers, and the text and the store behind it follow; whether the answer says that a blob is damaged
+abbrev pub Gives : {A : Type 0} → Bool → OpenStore → List ℕ → (Result A StoreFault → Option Entry → Type 0) → (Result A StoreFault → List ℕ) → List ℕ → OpenStore → Type 0
+Gives {A} damaged store bytes Command reply text next =
+    (answer : Result A StoreFault) × (made : Option Entry) × Command answer made × (text ≡ reply answer) × (next ≡ store_after store bytes made) × (damaged ≡ says_damaged answer)
+
+-- the text of the reply to an item at this hour, and the store behind it
+abbrev pub Answers : Bool → Bool → ℕ → OpenStore → Item → List ℕ → OpenStore → Type 0
+Answers damaged close hour store (put_blob space content) text next =
+    Gives damaged store content.bytes (WithRoom store.cache.index store.past (UploadAs store.cache.index space content hour)) (upload_reply content close) text next
+Answers damaged close hour store (get_blob space hash) text next =
+    (text ≡ fetch_reply hash close (serve store.cache space hash)) × (next ≡ store) × (damaged ≡ says_damaged (serve store.cache space hash))
+Answers damaged close hour store (put_ref name content) text next =
+    Gives damaged store content.bytes (WithRoom store.cache.index store.past (PutAs store.cache.index name content hour)) (needs_reply close) text next
+Answers damaged close hour store (get_ref name) text next = Gives damaged store [] (HeldAs store.cache store.past name hour) (get_reply close) text next
+Answers damaged close hour store (finalise name hash) text next =
+    Gives damaged store [] (WithRoom store.cache.index store.past (FinaliseAs store.cache.index name hash hour)) (needs_reply close) text next
+Answers damaged close hour store (mismatch expected found) text next = (text ≡ json_reply 400 (mismatch_body expected found) close) × (next ≡ store) × (damaged ≡ false)
+Answers damaged close hour store (not_object at) text next = (text ≡ json_reply 400 (not_object_body at) close) × (next ≡ store) × (damaged ≡ false)
+
+-- a command would make an entry, and the store behind it follows
+abbrev pub Makes : {A : Type 0} → OpenStore → List ℕ → (Result A StoreFault → Option Entry → Type 0) → OpenStore → Type 0
+Makes {A} store bytes Command next = (value : A) × (entry : Entry) × Command (Ok value) (Some entry) × (next ≡ store_after store bytes (Some entry))
+
+-- the change that an item would make at this hour, and the store behind it
+abbrev pub Changes : ℕ → OpenStore → Item → OpenStore → Type 0
+Changes hour store (put_blob space content) next = Makes store content.bytes (WithRoom store.cache.index store.past (UploadAs store.cache.index space content hour)) next
+Changes hour store (get_blob space hash) next = ⊥
+Changes hour store (put_ref name content) next = Makes store content.bytes (WithRoom store.cache.index store.past (PutAs store.cache.index name content hour)) next
+Changes hour store (get_ref name) next = Makes store [] (HeldAs store.cache store.past name hour) next
+Changes hour store (finalise name hash) next = Makes store [] (WithRoom store.cache.index store.past (FinaliseAs store.cache.index name hash hour)) next
+Changes hour store (mismatch expected found) next = ⊥
+Changes hour store (not_object at) next = ⊥
 
 -- what an item stores is within the limits, and what is put under a reference is an object
 abbrev pub Fits : Item → Type 0
@@ -64,22 +117,22 @@ Fits (not_object at) = ⊤
 abbrev pub Tells : Option ℕ → ℕ → Type 0
 Tells told hour = IfSome told (λ known. hour ≡ known)
 
-abbrev pub AnswersAt : Option ℕ → Bool → Cache → Item → List ℕ → Cache → Type 0
-AnswersAt told close cache item text next = (hour : ℕ) × Tells told hour × Answers close hour cache item text next
+abbrev pub AnswersAt : Option ℕ → Bool → Bool → OpenStore → Item → List ℕ → OpenStore → Type 0
+AnswersAt told damaged close store item text next = (hour : ℕ) × Tells told hour × Answers damaged close hour store item text next
+
+abbrev pub ChangesAt : Option ℕ → OpenStore → Item → OpenStore → Type 0
+ChangesAt told store item next = (hour : ℕ) × Tells told hour × Changes hour store item next
 
 -- the server closes with the last item of a stream that it answers
 abbrev pub closes : ℕ → Bool
 closes count = count + 1 == most_items
 
--- the texts of the replies to items, of which the first has this number, counted from 0, and what is stored behind them
-abbrev pub Runs : Option ℕ → ℕ → Cache → List Item → List ℕ → Cache → Type 0
-Runs told count cache [] text next = (text ≡ []) × (next ≡ cache)
-Runs told count cache (item ∷ items) text next =
-    (first : List ℕ) × (others : List ℕ) × (between : Cache) × AnswersAt told (closes count) cache item first between × Runs told (count + 1) between items others next × (text ≡ first ++ others)
-
--- the text is that of the replies to these items of a stream
-abbrev pub Replies : Option ℕ → Cache → List Item → List ℕ → Type 0
-Replies told cache items text = (next : Cache) × Runs told 0 cache items text next
+-- the texts of the replies to items, of which the first has this number, counted from 0, and the store behind them; none says
+-- that a blob is damaged
+abbrev pub Runs : Option ℕ → ℕ → OpenStore → List Item → List ℕ → OpenStore → Type 0
+Runs told count store [] text next = (text ≡ []) × (next ≡ store)
+Runs told count store (item ∷ items) text next =
+    (first : List ℕ) × (others : List ℕ) × (between : OpenStore) × AnswersAt told false (closes count) store item first between × Runs told (count + 1) between items others next × (text ≡ first ++ others)
 
 -- what is written at the end of a stream
 abbrev pub last_text : End → List ℕ

@@ -1,48 +1,154 @@
 -- What the top call answers.
-use Rattle.std.specs.Prelude.{◌≡◌, ◌⊎◌, ℕ, Bool, false, List, [], ◌∷◌, ◌++◌, Option, Result, Ok, Err, ◌≤◌, String, string_bytes, codes, decimal, nat_eq}
+use Rattle.std.specs.Prelude.{◌≡◌, ◌≢◌, ◌⊎◌, ℕ, ◌≤◌, Bool, true, false, IsTrue, List, [], ◌∷◌, ◌++◌, Option, None, Some, Result, Ok, Err, IfSome, codes, decimal}
 use Rattle.std.specs.declared.alloc.Global.{Global}
-use lib.Pointwise.{pointwise}
-use Rattle.std.specs.Io.KnownBytes.{Appends}
+use Rattle.std.specs.Prelude.{String}
+use Rattle.std.specs.Io.KnownBytes.{Appends, Keeps}
 use Rattle.ddc_names.specs.declared.Failed.{Failed}
+use Rattle.ddc_names.specs.declared.reference.RefName.{RefName}
+use Rattle.ddc_names.specs.Names.{hash_text}
 use Rattle.ddc_link.specs.Causes.{Rose}
 use Rattle.ddc_link.specs.Writes.{AppendsFront}
+use Rattle.ddc_disk.specs.Disk.{Meaning, Timeline, EachImage, EachSince, IsImage}
+use Rattle.ddc_disk.specs.Images.{Images, devices_faults, devices_line}
+use Rattle.ddc_disk.specs.declared.devices.Devices.{Devices}
+use Rattle.ddc_journal.specs.Journal.{is_made}
+use Rattle.ddc_model.specs.declared.entry.Entry.{Entry}
+use Rattle.ddc_model.specs.declared.fault.StoreFault.{StoreFault}
+use Rattle.ddc_model.specs.declared.fault.StoreFault.TheVariants.{Full}
+use Rattle.ddc_model.specs.declared.fault.StoreFault.TheVariants as faults
+use Rattle.ddc_model.specs.Limits.{standard}
+use Rattle.ddc_model.specs.Sound.{Cache, empty_cache, AreWhole}
+use Rattle.ddc_model.specs.Commands.{SpaceAs, changed}
+use Rattle.ddc_book.specs.Opening.{Holds, Opens, OpenFaultOf}
+use Rattle.ddc_book.specs.Loading.{AsBefore, Creates}
+use Rattle.ddc_book.specs.declared.fault.OpenFault.{OpenFault}
+use Rattle.ddc_book.specs.declared.fault.OpenFault.TheVariants.{NotMade, Corrupt, BadVersion, Unsound}
+use Rattle.ddc_book.specs.declared.fault.OpenFault.TheVariants as open_faults
 use Rattle.ddc_protocol.specs.Requests.{End, cut, unread, spent}
 use Rattle.ddc_command.specs.declared.session.Served.{Served}
-use Rattle.ddc_command.specs.declared.session.Served.TheVariants.{Closed, Unread, Cut, Spent, ReadFailed, WriteFailed, NoMemory}
+use Rattle.ddc_command.specs.declared.session.Served.TheVariants.{Closed, Unread, Cut, Spent, ReadFailed, WriteFailed, DiskFailed, Damaged, NoMemory}
+use Rattle.ddc_command.specs.declared.end.Ended.{Ended}
+use Rattle.ddc_command.specs.declared.end.Ended.TheVariants.{Usage, Unopened, Replayed, Uncreated, Unmade, Made, Untold}
+use Rattle.ddc_command.specs.Replies.{OpenStore, just_opened}
+use Rattle.ddc_command.specs.Session.{OpensWithin, Serves, Stops}
+use Rattle.ddc_command.specs.Words.{Form, replay, init, form_of}
 
--- `replay` and one further word
-abbrev pub is_replay : List (String Global) → Bool
-is_replay (command ∷ dir ∷ []) = pointwise nat_eq (string_bytes command) (codes "replay")
-is_replay (command ∷ dir ∷ more ∷ words) = false
-is_replay (command ∷ []) = false
-is_replay [] = false
+-- ---- texts
 
 abbrev pub usage_note : List ℕ
-usage_note = codes "usage: ddc replay DIR\n"
+usage_note = codes "usage: ddc init DIR NS TTL PIN | ddc replay DIR\n"
+
+abbrev pub no_memory_note : List ℕ
+no_memory_note = codes "ddc: no memory\n"
+
+abbrev pub disk_note : List ℕ
+disk_note = codes "ddc: disk failed\n"
 
 -- the note on an end inside the input, behind so many bytes
 abbrev pub bad_note : ℕ → List ℕ → List ℕ
 bad_note at code = (codes "ddc: bad input at " ++ decimal at) ++ (codes ": " ++ code) ++ codes "\n"
 
+-- the note on a store that can't be opened
+abbrev pub unopened_note : List ℕ → List ℕ
+unopened_note cause = codes "ddc: cannot open store: " ++ cause ++ codes "\n"
+
+-- a reference as text: the namespace, the bucket and the key's digits
+abbrev pub reference_text : RefName → List ℕ
+reference_text name = (name.space ++ codes "/") ++ (name.spot.bucket ++ codes "/") ++ hash_text (record { 0 = name.spot.key.0 })
+
+abbrev pub open_note : OpenFault → List ℕ
+open_note NotMade = unopened_note (codes "not made")
+open_note (Corrupt file at) = unopened_note ((codes "corrupt file " ++ decimal file) ++ (codes " at " ++ decimal at))
+open_note (BadVersion found) = unopened_note (codes "version " ++ decimal found)
+open_note (Unsound name) = unopened_note (codes "unsound " ++ reference_text name)
+open_note open_faults.DiskFailed = disk_note
+open_note open_faults.NoMemory = no_memory_note
+
+-- the line on a namespace that was made
+abbrev pub made_line : List ℕ → ℕ → ℕ → List ℕ
+made_line space ttl pin = (codes "namespace " ++ space) ++ (codes " ttl " ++ decimal ttl) ++ (codes " pin " ++ decimal pin) ++ codes "\n"
+
+-- ---- statuses and notes
+
 -- the status of each end of a session
-abbrev pub status_of : Served → ℕ
-status_of Closed = 0
-status_of (Unread at) = 3
-status_of (Cut at) = 3
-status_of (Spent at) = 3
-status_of ReadFailed = 4
-status_of WriteFailed = 4
-status_of NoMemory = 6
+abbrev pub served_status : Served → ℕ
+served_status Closed = 0
+served_status (Unread at) = 3
+served_status (Cut at) = 3
+served_status (Spent at) = 3
+served_status ReadFailed = 4
+served_status WriteFailed = 4
+served_status DiskFailed = 5
+served_status Damaged = 7
+served_status NoMemory = 6
 
 -- and its note
-abbrev pub note_of : Served → List ℕ
-note_of Closed = []
-note_of (Unread at) = bad_note at (codes "unread")
-note_of (Cut at) = bad_note at (codes "cut")
-note_of (Spent at) = bad_note at (codes "too_many_requests")
-note_of ReadFailed = codes "ddc: read failed\n"
-note_of WriteFailed = codes "ddc: write failed\n"
-note_of NoMemory = codes "ddc: no memory\n"
+abbrev pub served_note : Served → List ℕ
+served_note Closed = []
+served_note (Unread at) = bad_note at (codes "unread")
+served_note (Cut at) = bad_note at (codes "cut")
+served_note (Spent at) = bad_note at (codes "too_many_requests")
+served_note ReadFailed = codes "ddc: read failed\n"
+served_note WriteFailed = codes "ddc: write failed\n"
+served_note DiskFailed = disk_note
+served_note Damaged = codes "ddc: damaged blobs 1\n"
+served_note NoMemory = no_memory_note
+
+abbrev pub open_status : OpenFault → ℕ
+open_status NotMade = 2
+open_status (Corrupt file at) = 2
+open_status (BadVersion found) = 2
+open_status (Unsound name) = 2
+open_status open_faults.DiskFailed = 5
+open_status open_faults.NoMemory = 6
+
+-- the status of a namespace that can't be made, by the store's refusal
+abbrev pub refused_status : StoreFault → ℕ
+refused_status (faults.Broken count) = 8
+refused_status faults.UnknownSpace = 8
+refused_status faults.NotFound = 8
+refused_status faults.NotFinalised = 8
+refused_status faults.NotPending = 8
+refused_status (faults.Full what limit) = 8
+refused_status (faults.HistoryFull entries links) = 8
+refused_status faults.NoMemory = 6
+refused_status faults.DiskFailed = 5
+refused_status (faults.Damaged name found) = 8
+
+abbrev pub refused_text : List ℕ → List ℕ
+refused_text code = codes "ddc: refused: " ++ code ++ codes "\n"
+
+abbrev pub refused_note : StoreFault → List ℕ
+refused_note (faults.Broken count) = refused_text (codes "broken")
+refused_note faults.UnknownSpace = refused_text (codes "unknown_namespace")
+refused_note faults.NotFound = refused_text (codes "not_found")
+refused_note faults.NotFinalised = refused_text (codes "not_finalised")
+refused_note faults.NotPending = refused_text (codes "not_pending")
+refused_note (faults.Full what limit) = refused_text (codes "full")
+refused_note (faults.HistoryFull entries links) = refused_text (codes "history_full")
+refused_note faults.NoMemory = no_memory_note
+refused_note faults.DiskFailed = disk_note
+refused_note (faults.Damaged name found) = refused_text (codes "damaged")
+
+-- the status of each end of a command
+abbrev pub status_of : Ended → ℕ
+status_of Usage = 1
+status_of (Unopened fault) = open_status fault
+status_of (Replayed served) = served_status served
+status_of (Uncreated fault) = open_status fault
+status_of (Unmade fault) = refused_status fault
+status_of Made = 0
+status_of Untold = 4
+
+-- and its note
+abbrev pub note_of : Ended → List ℕ
+note_of Usage = usage_note
+note_of (Unopened fault) = open_note fault
+note_of (Replayed served) = served_note served
+note_of (Uncreated fault) = open_note fault
+note_of (Unmade fault) = refused_note fault
+note_of Made = []
+note_of Untold = codes "ddc: write failed\n"
 
 -- the whole note was written, or a front of it where the count of faults rose
 abbrev pub Noted : Option (List ℕ) → Option (List ℕ) → ℕ → ℕ → List ℕ → Type 0
@@ -57,11 +163,140 @@ pub record NotesAs (old new : Option (List ℕ)) (before now : ℕ) (note : List
   pub wrote : Notes old new before now note result
   pub later : before ≤ now
 
-abbrev pub IsStatus : ℕ → Type 0
-IsStatus status = (status ≡ 0) ⊎ (status ≡ 1) ⊎ (status ≡ 3) ⊎ (status ≡ 4) ⊎ (status ≡ 6)
+-- ---- what a command was given and left
 
--- how a bad input ended, and its word in the note
-pub data IsBad : End → List ℕ → Type 0 where
-  unread_end : IsBad unread (codes "unread")
-  cut_end : IsBad cut (codes "cut")
-  spent_end : IsBad spent (codes "too_many_requests")
+-- the devices, the hour where the clock tells it, the input and what is left of it, what the sink had written before and
+-- after, and the counts of faults of the source and of the sink
+pub record Scene (D : Type 0) : Type 1 where
+  pub tells : Bool
+  pub meaning : D → Meaning
+  pub old : Devices D
+  pub new : Devices D
+  pub hour : Option ℕ
+  pub input : Option (List ℕ)
+  pub left : Option (List ℕ)
+  pub from : Option (List ℕ)
+  pub to : Option (List ℕ)
+  pub reads_before : ℕ
+  pub reads_now : ℕ
+  pub writes_before : ℕ
+  pub writes_now : ℕ
+
+abbrev pub line_before : {D : Type 0} → Scene D → Timeline Images
+line_before scene = devices_line scene.meaning scene.old
+
+abbrev pub line_now : {D : Type 0} → Scene D → Timeline Images
+line_now scene = devices_line scene.meaning scene.new
+
+-- the devices' count of faults rose
+abbrev pub DevicesRose : {D : Type 0} → Scene D → Type 0
+DevicesRose scene = Rose (devices_faults scene.meaning scene.old) (devices_faults scene.meaning scene.new)
+
+-- the devices tell what they hold, nothing is pending on them, and what they hold opens to this cache
+abbrev pub OpensTo : {D : Type 0} → Scene D → Cache → Type 0
+OpensTo scene cache = IsTrue scene.tells × EachImage (line_before scene) (λ im. Opens standard im cache)
+
+-- this cache is what the first file holds, where it tells that
+abbrev pub IsOpened : {D : Type 0} → Scene D → Cache → Type 0
+IsOpened scene cache = IfSome (scene.meaning scene.old.first).held (λ file. Holds standard file cache) × AreWhole cache.index
+
+-- ---- a store that isn't opened
+
+abbrev pub IsInit : Option Form → Type 0
+IsInit None = ⊥
+IsInit (Some replay) = ⊥
+IsInit (Some (init space ttl pin)) = Unit {0}
+
+-- the fault is that of what the first file holds, or a disk failed
+abbrev pub Unopens : {D : Type 0} → Scene D → Option Form → OpenFault → Type 0
+Unopens scene form NotMade = IfSome (scene.meaning scene.old.first).held (λ file. OpenFaultOf standard file NotMade) × (form ≡ Some replay)
+Unopens scene form (Corrupt which at) = IfSome (scene.meaning scene.old.first).held (λ file. OpenFaultOf standard file (Corrupt which at))
+Unopens scene form (BadVersion found) = IfSome (scene.meaning scene.old.first).held (λ file. OpenFaultOf standard file (BadVersion found))
+Unopens scene form (Unsound name) = IfSome (scene.meaning scene.old.first).held (λ file. OpenFaultOf standard file (Unsound name))
+Unopens scene form open_faults.DiskFailed = DevicesRose scene
+Unopens scene form open_faults.NoMemory = Unit {0}
+
+-- ---- a stream that is answered
+
+-- why a session ends without its input's end
+abbrev pub HasRisen : {D : Type 0} → Scene D → Served → Type 0
+HasRisen scene Closed = Unit {0}
+HasRisen scene (Unread at) = Unit {0}
+HasRisen scene (Cut at) = Unit {0}
+HasRisen scene (Spent at) = Unit {0}
+HasRisen scene ReadFailed = Rose scene.reads_before scene.reads_now
+HasRisen scene WriteFailed = Rose scene.writes_before scene.writes_now
+HasRisen scene DiskFailed = DevicesRose scene
+HasRisen scene Damaged = Unit {0}
+HasRisen scene NoMemory = Unit {0}
+
+-- at return a crash leaves the store that the session left; where the disks failed it may lack the last change
+abbrev pub Leaves : {D : Type 0} → Scene D → OpenStore → OpenStore → Served → Type 0
+Leaves scene start final served =
+    (served ≢ DiskFailed → EachImage (line_now scene) (λ im. Opens standard im final.cache)) × Stops scene.hour scene.input (line_now scene) standard start final served
+
+-- the texts of the replies from the opened store on were written; a crash at any moment of the call leaves the store behind
+-- the first items of the input
+pub record Replays {D : Type 0} (scene : Scene D) (start : Cache) (final : OpenStore) (served : Served) : Type 0 where
+  pub opened : IsOpened scene start
+  pub serves : Serves scene.hour scene.input scene.left scene.from scene.to (just_opened start) final served
+  pub cause : HasRisen scene served
+  pub any_moment : OpensTo scene start → EachSince (line_before scene) (line_now scene) (OpensWithin scene.hour scene.input (just_opened start) standard)
+  pub leaves : OpensTo scene start → Leaves scene (just_opened start) final served
+
+-- ---- a namespace that is made
+
+-- no store is made, and the state is empty
+abbrev pub IsEmptyUnmade : Cache → Images → Type 0
+IsEmptyUnmade cache im = (cache ≡ empty_cache standard) × (is_made im.first ≡ false)
+
+-- the devices tell what they hold, nothing is pending on them, and what they hold opens to this cache, or no store is made
+-- and the cache is empty
+abbrev pub StartsFrom : {D : Type 0} → Scene D → Cache → Type 0
+StartsFrom scene cache = IsTrue scene.tells × EachImage (line_before scene) (λ im. Opens standard im cache ⊎ IsEmptyUnmade cache im)
+
+-- this cache is what the first file holds, or is empty where no store is made, where the file tells that
+abbrev pub IsFound : {D : Type 0} → Scene D → Cache → Type 0
+IsFound scene cache = IsOpened scene cache ⊎ (IfSome (scene.meaning scene.old.first).held (λ file. is_made file ≡ false) × (cache ≡ empty_cache standard))
+
+-- a namespace was asked for; a crash at any moment of the call leaves the state before or after it, or no store where none
+-- was made
+pub record Makes {D : Type 0} (scene : Scene D) (space : List ℕ) (ttl pin : ℕ) (start : Cache) (answer : Result (Unit {0}) StoreFault) (made : Option Entry) : Type 0 where
+  pub found : IsFound scene start
+  pub answers : SpaceAs start.index space ttl pin answer made
+  pub any_moment : StartsFrom scene start → EachSince (line_before scene) (line_now scene) (λ im. Opens standard im start ⊎ Opens standard im (changed start [] made) ⊎ IsEmptyUnmade start im)
+
+-- and at return the state after it
+abbrev pub LeavesAfter : {D : Type 0} → Scene D → Cache → Option Entry → Type 0
+LeavesAfter scene start made = StartsFrom scene start → EachImage (line_now scene) (λ im. Opens standard im (changed start [] made))
+
+-- why a namespace wasn't made
+abbrev pub Unmakes : {D : Type 0} → Scene D → List ℕ → ℕ → ℕ → Cache → StoreFault → Type 0
+Unmakes scene space ttl pin start (faults.Broken count) = ⊥
+Unmakes scene space ttl pin start faults.UnknownSpace = ⊥
+Unmakes scene space ttl pin start faults.NotFound = ⊥
+Unmakes scene space ttl pin start faults.NotFinalised = ⊥
+Unmakes scene space ttl pin start faults.NotPending = ⊥
+Unmakes scene space ttl pin start (Full what limit) = Makes scene space ttl pin start (Err (Full what limit)) None × LeavesAfter scene start None
+Unmakes scene space ttl pin start (faults.HistoryFull entries links) = ⊥
+Unmakes scene space ttl pin start faults.NoMemory = IsFound scene start × LeavesAfter scene start None
+Unmakes scene space ttl pin start faults.DiskFailed = ((made : Option Entry) × Makes scene space ttl pin start (Ok tt) made) × DevicesRose scene
+Unmakes scene space ttl pin start (faults.Damaged name found) = ⊥
+
+-- ---- the whole
+
+-- how a command of these words ended
+abbrev pub Ends : {D : Type 0} → Scene D → List (String Global) → Ended → Type 0
+Ends scene words Usage = (form_of words ≡ None) × (scene.new ≡ scene.old)
+Ends scene words (Unopened fault) = (form_of words ≢ None) × AsBefore scene.meaning scene.old scene.new × Unopens scene (form_of words) fault
+Ends scene words (Replayed served) = (form_of words ≡ Some replay) × (start : Cache) × (final : OpenStore) × Replays scene start final served
+Ends scene words (Uncreated fault) =
+    IsInit (form_of words) × IfSome (scene.meaning scene.old.first).held (λ file. is_made file ≡ false) × Creates scene.meaning scene.old standard scene.new
+    × (((fault ≡ open_faults.DiskFailed) × DevicesRose scene) ⊎ (fault ≡ open_faults.NoMemory))
+Ends scene words (Unmade fault) = (space : List ℕ) × (ttl : ℕ) × (pin : ℕ) × (form_of words ≡ Some (init space ttl pin)) × (start : Cache) × Unmakes scene space ttl pin start fault
+Ends scene words Made =
+    (space : List ℕ) × (ttl : ℕ) × (pin : ℕ) × (form_of words ≡ Some (init space ttl pin)) × (start : Cache) × (made : Option Entry)
+    × Makes scene space ttl pin start (Ok tt) made × LeavesAfter scene start made × Appends scene.from scene.to (made_line space ttl pin)
+Ends scene words Untold =
+    (space : List ℕ) × (ttl : ℕ) × (pin : ℕ) × (form_of words ≡ Some (init space ttl pin)) × (start : Cache) × (made : Option Entry)
+    × Makes scene space ttl pin start (Ok tt) made × LeavesAfter scene start made × AppendsFront scene.from scene.to (made_line space ttl pin) × Rose scene.writes_before scene.writes_now

@@ -1,9 +1,9 @@
 // The replies to requests.
-ghost use Rattle.std.specs.Prelude.{◌≡◌, ◌++◌, IsSome, false};
+ghost use Rattle.std.specs.Prelude.{◌≡◌, ◌++◌, IsSome, false, true};
 ghost use Rattle.http.specs.StatusCode.{reason_phrase};
 ghost use Rattle.ddc_model.specs.declared.fault.StoreFault.{StoreFault};
 ghost use Rattle.ddc_model.specs.Commands.{fetch};
-ghost use Rattle.ddc_protocol.specs.Replies.{json_reply, blob_reply, object_reply, identifier_body, needs_body, error_body, fault_reply};
+ghost use Rattle.ddc_protocol.specs.Replies.{json_reply, blob_reply, object_reply, identifier_body, needs_body, error_body, damaged_body, fault_reply};
 ghost use Rattle.ddc_http.specs.Heads.{text_of, code_text, IsAnswered, fault_text};
 ghost use Rattle.ddc_http.specs.Reader.{asked};
 ghost use Rattle.ddc_protocol.specs.Requests.{put_blob, get_blob, put_ref, get_ref, finalise};
@@ -11,8 +11,8 @@ ghost use Rattle.ddc_command.specs.Replies.{needs_reply, fetch_reply, Fits};
 ghost use Rattle.ddc_command.specs.Writes.{WritesAs, AnsweredAs};
 
 use ddc_http::{
-    Ask, ErrorCode, Head, HttpFault, Kind, Request, WriteFault, error_body, fault_body, full_body,
-    identifier_body, needs_body, write_head,
+    Ask, ErrorCode, Head, HttpFault, Kind, Request, WriteFault, damaged_body, error_body,
+    fault_body, full_body, history_full_body, identifier_body, needs_body, write_head,
 };
 use ddc_link::{Sink, put_all};
 use ddc_model::{StoreFault, What};
@@ -158,6 +158,36 @@ fn refuse_full<W: Sink>(
     }
 }
 
+fn refuse_history_full<W: Sink>(
+    alloc: Global,
+    sink: &mut W,
+    entries: u64,
+    links: u64,
+    close: bool,
+) -> Result<(), WriteFault>
+    ensures gives { WritesAs (W.written sink.old) (W.written sink.new) (W.faults sink.old) (W.faults sink.new) (fault_reply (StoreFault.HistoryFull entries links) close) result }
+{
+    match history_full_body(alloc, entries, links) {
+        Ok(body) => write_json(alloc, sink, 503, body.as_slice(), close),
+        Err(_) => Err(WriteFault::NoMemory),
+    }
+}
+
+// Answers that a blob has bytes of another hash. The server closes.
+fn refuse_damaged<W: Sink>(
+    alloc: Global,
+    sink: &mut W,
+    named: &IoHash,
+    found: &IoHash,
+) -> Result<(), WriteFault>
+    ensures gives { WritesAs (W.written sink.old) (W.written sink.new) (W.faults sink.old) (W.faults sink.new) (json_reply 500 (damaged_body named.now found.now) true) result }
+{
+    match damaged_body(alloc, named, found) {
+        Ok(body) => write_json(alloc, sink, 500, body.as_slice(), true),
+        Err(_) => Err(WriteFault::NoMemory),
+    }
+}
+
 // Answers a command that the store refused. Want of memory gets no reply.
 fn write_refusal<W: Sink>(
     alloc: Global,
@@ -169,12 +199,18 @@ fn write_refusal<W: Sink>(
     ensures memory { fault ≡ StoreFault.NoMemory → result ≡ Err WriteFault.NoMemory }
 {
     match fault {
+        StoreFault::Broken { .. } => refuse(alloc, sink, 503, ErrorCode::Broken, true),
         StoreFault::UnknownSpace => refuse(alloc, sink, 404, ErrorCode::UnknownNamespace, close),
         StoreFault::NotFound => refuse(alloc, sink, 404, ErrorCode::NotFound, close),
         StoreFault::NotFinalised => refuse(alloc, sink, 404, ErrorCode::NotFinalised, close),
         StoreFault::NotPending => refuse(alloc, sink, 409, ErrorCode::NotPending, close),
         StoreFault::Full { what, limit } => refuse_full(alloc, sink, what, limit, close),
+        StoreFault::HistoryFull { entries, links } => {
+            refuse_history_full(alloc, sink, entries, links, close)
+        }
         StoreFault::NoMemory => Err(WriteFault::NoMemory),
+        StoreFault::DiskFailed => refuse(alloc, sink, 503, ErrorCode::DiskFailed, true),
+        StoreFault::Damaged { named, found } => refuse_damaged(alloc, sink, &named, &found),
     }
 }
 

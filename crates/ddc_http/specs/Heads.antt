@@ -5,7 +5,7 @@ use Rattle.ddc_names.specs.declared.hash.IoHash.{IoHash}
 use Rattle.ddc_names.specs.Names.{hash_text}
 use Rattle.ddc_protocol.specs.Replies.{head_text, json, octets, compact, error_body, mismatch_body, not_object_body}
 use Rattle.ddc_http.specs.declared.reply.ErrorCode.{ErrorCode}
-use Rattle.ddc_http.specs.declared.reply.ErrorCode.TheVariants.{Unread, NotFound, UnknownNamespace, NotFinalised, NotPending}
+use Rattle.ddc_http.specs.declared.reply.ErrorCode.TheVariants.{Unread, NotFound, UnknownNamespace, NotFinalised, NotPending, DiskFailed, Broken}
 use Rattle.ddc_http.specs.declared.reply.Head.{Head}
 use Rattle.ddc_http.specs.declared.reply.Kind.{Kind}
 use Rattle.ddc_http.specs.declared.reply.Kind.TheVariants.{Json, Octets, Compact}
@@ -29,6 +29,8 @@ code_text NotFound = codes "not_found"
 code_text UnknownNamespace = codes "unknown_namespace"
 code_text NotFinalised = codes "not_finalised"
 code_text NotPending = codes "not_pending"
+code_text DiskFailed = codes "disk_failed"
+code_text Broken = codes "broken"
 
 -- a hash in a list, with a comma before it unless it is the first
 abbrev pub hash_entry : Bool → IoHash → List ℕ

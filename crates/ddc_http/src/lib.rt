@@ -14,8 +14,8 @@ mod request;
 mod stream;
 
 pub use reply::{
-    ErrorCode, Head, Kind, WriteFault, error_body, fault_body, full_body, identifier_body,
-    needs_body, status_phrases, write_head,
+    ErrorCode, Head, Kind, WriteFault, damaged_body, error_body, fault_body, full_body,
+    history_full_body, identifier_body, needs_body, status_phrases, write_head,
 };
 pub use request::{Ask, HttpFault, Request};
 pub use stream::RequestReader;

@@ -8,7 +8,7 @@ ghost use Rattle.serde_json.specs.Data.{string, unsigned, number, object, member
 ghost use Rattle.serde_json.specs.View.{view};
 ghost use Rattle.ddc_link.specs.Causes.{Rose};
 ghost use Rattle.ddc_link.specs.Writes.{AppendsFront};
-ghost use Rattle.ddc_protocol.specs.Replies.{head_text, hash_line, close_line, opening_text, ending_text, identifier_body, error_body, mismatch_body, not_object_body, what_text, full_body, needs_body};
+ghost use Rattle.ddc_protocol.specs.Replies.{head_text, hash_line, close_line, opening_text, ending_text, identifier_body, error_body, mismatch_body, not_object_body, what_text, full_body, history_full_body, damaged_body, needs_body};
 ghost use Rattle.ddc_http.specs.Heads.{kind_text, text_of, code_text, hash_entry, IsAnswered, fault_text, StatusPhrases};
 
 use crate::request::HttpFault;
@@ -66,6 +66,10 @@ pub enum ErrorCode {
     NotFinalised,
     /// `not_pending`: the reference has another object than the one named.
     NotPending,
+    /// `disk_failed`: a disk failed in this call.
+    DiskFailed,
+    /// `broken`: a disk failed in an earlier call.
+    Broken,
 }
 
 impl Kind {
@@ -90,6 +94,8 @@ impl ErrorCode {
             ErrorCode::UnknownNamespace => "unknown_namespace",
             ErrorCode::NotFinalised => "not_finalised",
             ErrorCode::NotPending => "not_pending",
+            ErrorCode::DiskFailed => "disk_failed",
+            ErrorCode::Broken => "broken",
         }
     }
 }
@@ -206,6 +212,20 @@ fn full_value(alloc: Global, limit: u64, what: &str) -> Result<Value, AllocError
     json!(in alloc; {"error": "full", "limit": limit, "what": what})
 }
 
+fn history_full_value(alloc: Global, entries: u64, links: u64) -> Result<Value, AllocError>
+    ensures { IfOk result (λ value. view value ≡ object (member (codes "entries") (number (unsigned entries))
+        (member (codes "error") (string (codes "history_full")) (member (codes "links") (number (unsigned links)) no_members)))) }
+{
+    json!(in alloc; {"entries": entries, "error": "history_full", "links": links})
+}
+
+fn damaged_value(alloc: Global, found: &str, named: &str) -> Result<Value, AllocError>
+    ensures { IfOk result (λ value. view value ≡ object (member (codes "error") (string (codes "damaged"))
+        (member (codes "found") (string found.now) (member (codes "named") (string named.now) no_members)))) }
+{
+    json!(in alloc; {"error": "damaged", "found": found, "named": named})
+}
+
 // The digits of a hash, which JSON writes as they are.
 fn digits_of(alloc: Global, hash: &[u8]) -> Result<String, AllocError>
     ensures digits { IfOk result (λ text. string_bytes text ≡ encode_lower hash.now) }
@@ -249,6 +269,22 @@ fn full_text(alloc: Global, what: What, limit: u64) -> Result<String, AllocError
     ensures { IfOk result (λ text. string_bytes text ≡ full_body limit (what_text what)) }
 {
     let value = full_value(alloc, limit, what_text(what))?;
+    value.to_string(alloc)
+}
+
+fn history_full_text(alloc: Global, entries: u64, links: u64) -> Result<String, AllocError>
+    ensures { IfOk result (λ text. string_bytes text ≡ history_full_body entries links) }
+{
+    let value = history_full_value(alloc, entries, links)?;
+    value.to_string(alloc)
+}
+
+fn damaged_text(alloc: Global, named: &IoHash, found: &IoHash) -> Result<String, AllocError>
+    ensures { IfOk result (λ text. string_bytes text ≡ damaged_body named.now found.now) }
+{
+    let found = digits_of(alloc, &found.0)?;
+    let named = digits_of(alloc, &named.0)?;
+    let value = damaged_value(alloc, found.as_str(), named.as_str())?;
     value.to_string(alloc)
 }
 
@@ -322,6 +358,31 @@ pub fn full_body(alloc: Global, what: What, limit: u64) -> Result<ByteList, NoMe
     ensures { IfOk result (λ body. body ≡ full_body limit (what_text what)) }
 {
     let text = full_text(alloc, what, limit).map_err(|_| NoMemory)?;
+    Ok(ByteList::of_vec(text.into_bytes()))
+}
+
+/// The body of the refusal of a change for which the history of this opening has no room: so many entries with so many
+/// links were made.
+///
+/// # Errors
+///
+/// `NoMemory` where there was no memory for it.
+pub fn history_full_body(alloc: Global, entries: u64, links: u64) -> Result<ByteList, NoMemory>
+    ensures { IfOk result (λ body. body ≡ history_full_body entries links) }
+{
+    let text = history_full_text(alloc, entries, links).map_err(|_| NoMemory)?;
+    Ok(ByteList::of_vec(text.into_bytes()))
+}
+
+/// The body of the reply that names a blob and the other hash that its bytes have.
+///
+/// # Errors
+///
+/// `NoMemory` where there was no memory for it.
+pub fn damaged_body(alloc: Global, named: &IoHash, found: &IoHash) -> Result<ByteList, NoMemory>
+    ensures { IfOk result (λ body. body ≡ damaged_body named.now found.now) }
+{
+    let text = damaged_text(alloc, named, found).map_err(|_| NoMemory)?;
     Ok(ByteList::of_vec(text.into_bytes()))
 }
 

@@ -1,6 +1,6 @@
 use crate::{
-    ErrorCode, Head, HttpFault, Kind, WriteFault, error_body, fault_body, full_body,
-    identifier_body, needs_body, status_phrases, write_head,
+    ErrorCode, Head, HttpFault, Kind, WriteFault, damaged_body, error_body, fault_body, full_body,
+    history_full_body, identifier_body, needs_body, status_phrases, write_head,
 };
 use ddc_link::MemSink;
 use ddc_model::What;
@@ -201,5 +201,48 @@ fn full(rt: HostRuntime) -> Result<(), Fail> {
         let body = full_body(rt.alloc(), what, limit)?;
         assert_eq!(rt; body.as_slice(), wanted);
     }
+    Ok(())
+}
+
+#[test]
+fn disks_that_failed(rt: HostRuntime) -> Result<(), Fail> {
+    let failed = error_body(rt.alloc(), ErrorCode::DiskFailed)?;
+    assert_eq!(rt;
+        failed.as_slice(),
+        b"{\"error\":\"disk_failed\"}".as_slice()
+    );
+    let broken = error_body(rt.alloc(), ErrorCode::Broken)?;
+    assert_eq!(rt; broken.as_slice(), b"{\"error\":\"broken\"}".as_slice());
+    Ok(())
+}
+
+#[test]
+fn a_history_that_is_full(rt: HostRuntime) -> Result<(), Fail> {
+    let cases = [
+        (
+            3,
+            0,
+            b"{\"entries\":3,\"error\":\"history_full\",\"links\":0}".as_slice(),
+        ),
+        (
+            4_194_304,
+            16_777_216,
+            b"{\"entries\":4194304,\"error\":\"history_full\",\"links\":16777216}".as_slice(),
+        ),
+    ];
+    for (entries, links, wanted) in cases {
+        let body = history_full_body(rt.alloc(), entries, links)?;
+        assert_eq!(rt; body.as_slice(), wanted);
+    }
+    Ok(())
+}
+
+#[test]
+fn a_damaged_blob(rt: HostRuntime) -> Result<(), Fail> {
+    let body = damaged_body(rt.alloc(), &EMPTY, &OTHER)?;
+    assert_eq!(rt;
+        body.as_slice(),
+        b"{\"error\":\"damaged\",\"found\":\"0f0f0f0f0f0f0f0f0f0f0f0f0f0f0f0f0f0f0f0f\",\"named\":\"af1349b9f5f9a1a6a0404dea36dcc9499bcb25c9\"}".as_slice()
+    );
     Ok(())
 }

@@ -4,7 +4,7 @@ use Rattle.http.specs.StatusCode.{reason_phrase}
 use Rattle.ddc_names.specs.declared.hash.IoHash.{IoHash}
 use Rattle.ddc_names.specs.Names.{hash_text}
 use Rattle.ddc_model.specs.declared.fault.StoreFault.{StoreFault}
-use Rattle.ddc_model.specs.declared.fault.StoreFault.TheVariants.{UnknownSpace, NotFound, NotFinalised, NotPending, Full, NoMemory}
+use Rattle.ddc_model.specs.declared.fault.StoreFault.TheVariants.{Broken, UnknownSpace, NotFound, NotFinalised, NotPending, Full, HistoryFull, NoMemory, DiskFailed, Damaged}
 use Rattle.ddc_model.specs.declared.fault.What.{What}
 use Rattle.ddc_model.specs.declared.fault.What.TheVariants.{Spaces, Blobs, Refs, Links, Units}
 
@@ -90,14 +90,28 @@ what_text Refs = codes "refs"
 what_text Links = codes "links"
 what_text Units = codes "units"
 
--- the reply of a store that refuses; want of memory has none
+-- the body for a change for which the history has no room, by its entries and links so far
+abbrev pub history_full_body : ℕ → ℕ → List ℕ
+history_full_body entries links = codes "{\"entries\":" ++ decimal entries ++ codes ",\"error\":\"history_full\",\"links\":" ++ decimal links ++ codes "}"
+
+-- the body for a blob that is kept under this name, and whose bytes have another hash
+abbrev pub damaged_body : IoHash → IoHash → List ℕ
+damaged_body name found =
+    codes "{\"error\":\"damaged\",\"found\":\"" ++ hash_text found ++ codes "\",\"named\":\"" ++ hash_text name ++ codes "\"}"
+
+-- the reply of a store that refuses; want of memory has none. After a disk failed, and after a damaged blob,
+-- the server closes
 abbrev pub fault_reply : StoreFault → Bool → List ℕ
+fault_reply (Broken faults) close = json_reply 503 (error_body (codes "broken")) true
 fault_reply UnknownSpace close = json_reply 404 (error_body (codes "unknown_namespace")) close
 fault_reply NotFound close = json_reply 404 (error_body (codes "not_found")) close
 fault_reply NotFinalised close = json_reply 404 (error_body (codes "not_finalised")) close
 fault_reply NotPending close = json_reply 409 (error_body (codes "not_pending")) close
 fault_reply (Full what limit) close = json_reply 507 (full_body limit (what_text what)) close
+fault_reply (HistoryFull entries links) close = json_reply 503 (history_full_body entries links) close
 fault_reply NoMemory close = []
+fault_reply DiskFailed close = json_reply 503 (error_body (codes "disk_failed")) true
+fault_reply (Damaged name found) close = json_reply 500 (damaged_body name found) true
 
 -- the reply to a request that isn't read
 abbrev pub unread_reply : List ℕ

@@ -13,7 +13,7 @@ use Rattle.ddc_model.specs.declared.fault.StoreFault.TheVariants.{UnknownSpace}
 use Rattle.ddc_model.specs.State.{State, blob_name, blob_at, has_space}
 use Rattle.ddc_model.specs.Content.{Content, named}
 use Rattle.ddc_model.specs.Sound.{Cache, IsSound}
-use Rattle.ddc_model.specs.Commands.{hour_of, stored, unless, with_room, EntryWhere, upload_where, upload_entry, UploadAs}
+use Rattle.ddc_model.specs.Commands.{hour_of, stored, with_room, EntryWhere, upload_where, UploadAs}
 use Rattle.ddc_model.proofs.Maps.{same_some}
 use Rattle.ddc_model.specs.Keys.{blob_cmp, blob_total, blob_exact}
 use Rattle.ddc_state.proofs.Given.{put_undone}

@@ -1,5 +1,5 @@
 -- What a contract sees of a store in memory, and the parts of what its commands give.
-use Rattle.std.specs.Prelude.{◌≡◌, ℕ, Bool, List, length, Option, None, Some, Result, Ok, Err, if◌then◌else◌, refl}
+use Rattle.std.specs.Prelude.{◌≡◌, ℕ, List, Option, None, Some, Result, Ok, Err, if◌then◌else◌, refl}
 use Rattle.std.specs.FinMap.{FinMap, code, len}
 use Rattle.std.specs.Coded.{Coded, code_by, coded×}
 use Rattle.ddc_names.specs.Orders.{coded_name}

@@ -9,8 +9,10 @@
 mod missing;
 #[cfg(test)]
 mod plain;
+mod sound;
 #[cfg(test)]
 mod tests;
 mod walk;
 
 pub use missing::{needs, needs_with};
+pub use sound::first_unsound;

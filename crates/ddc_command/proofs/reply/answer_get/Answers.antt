@@ -2,7 +2,7 @@ use Rattle.std.proofs.Common.{◌≡◌, List, ℕ, [], ◌∙◌, ap, sym, subs
 use Rattle.ddc_names.specs.declared.hash.IoHash.{IoHash}
 use Rattle.ddc_model.specs.declared.fault.StoreFault.{StoreFault}
 use Rattle.ddc_model.specs.Commands.{GetsAs, Gives, fetch}
-use Rattle.ddc_command.proofs.Answering.{got, get_refused}
+use Rattle.ddc_command.proofs.Answering.{got, get_refused, not_refused}
 use Rattle.ddc_command.proofs.reply.answer_get.Goals as goal
 
 pub returns-in-Ok-fetch : goal.returns-in-Ok-fetch
@@ -21,3 +21,8 @@ returns-in-Err g c =
       gives = get_refused (g.W.Sink.written c.args.sink.now) (g.W.Sink.written c.write_refusal.new.sink) (g.W.Sink.faults c.args.sink.now) (g.W.Sink.faults c.write_refusal.new.sink) c.args.close c.args.hour c.args.store.now c.get_ref.new.self c.args.name.now c.in-Err.fault c.write_refusal.result
           (subst P c.in-Err.is c.get_ref.ensures) c.write_refusal.ensures.memory c.write_refusal.ensures.gives;
     }
+
+pub unreachable-requires : goal.unreachable-requires
+unreachable-requires g c =
+    let P : Result IoHash StoreFault → Type 0 = λ answer. Gives c.args.store.now [] c.get_ref.new.self (GetsAs c.args.store.now c.args.name.now c.args.hour) answer in
+    not_refused c.args.store.now c.get_ref.new.self c.args.name.now c.args.hour c.in-Ok.hash c.in-Err-fetch.field-0 (subst P c.in-Ok.is c.get_ref.ensures) (sym c.in-Err-fetch.ensures)

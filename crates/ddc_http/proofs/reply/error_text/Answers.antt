@@ -6,7 +6,7 @@ use Rattle.serde_json.specs.Written.{compact_text}
 use Rattle.serde_json.proofs.OnLiterals.{serde_json_on_literals}
 use Rattle.ddc_protocol.specs.Replies.{error_body}
 use Rattle.ddc_http.specs.declared.reply.ErrorCode.{ErrorCode}
-use Rattle.ddc_http.specs.declared.reply.ErrorCode.TheVariants.{Unread, NotFound, UnknownNamespace, NotFinalised, NotPending}
+use Rattle.ddc_http.specs.declared.reply.ErrorCode.TheVariants.{Unread, NotFound, UnknownNamespace, NotFinalised, NotPending, DiskFailed, Broken}
 use Rattle.ddc_http.specs.Heads.{code_text}
 use Rattle.ddc_http.proofs.reply.error_text.Goals as goal
 
@@ -18,6 +18,8 @@ written NotFound = refl
 written UnknownNamespace = refl
 written NotFinalised = refl
 written NotPending = refl
+written DiskFailed = refl
+written Broken = refl
 
 pub returns : goal.returns
 returns c =

@@ -1,12 +1,8 @@
 use Rattle.std.proofs.Common.{◌≡◌, ap, sym, ◌∙◌, subst, refl}
 use Rattle.std.specs.FinMap as map
-use Rattle.ddc_names.specs.declared.hash.IoHash.{IoHash}
-use Rattle.ddc_model.specs.Keys.{blob_cmp, blob_total, blob_exact}
 use Rattle.ddc_model.specs.State.{blob_name, blob_at}
 use Rattle.ddc_model.specs.Content.{named}
 use Rattle.ddc_model.specs.Sound.{Cache, IsSound}
-use Rattle.ddc_state.proofs.Given.{put_undone}
-use Rattle.ddc_state.specs.Views.{IndexView}
 use Rattle.memory_store.proofs.Making.{taken_back}
 use Rattle.memory_store.proofs.store.Store.add.Goals as goal
 

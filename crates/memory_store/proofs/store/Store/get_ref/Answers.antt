@@ -1,5 +1,4 @@
-use Rattle.std.proofs.Common.{◌≡◌, ap, sym, ◌∙◌, subst, [], Ok, Some, None, Option, refl}
-use Rattle.ddc_model.specs.declared.entry.Entry.{Entry}
+use Rattle.std.proofs.Common.{sym, [], Ok, Some, None, refl}
 use Rattle.ddc_model.specs.Commands.{GetsAs}
 use Rattle.ddc_model.proofs.Sound.{get_sound}
 use Rattle.memory_store.proofs.Giving.{answered}

@@ -1,5 +1,5 @@
 use Rattle.std.proofs.Common.{subst, sym, ◌≡◌}
-use Rattle.ddc_model.specs.Sound.{Cache, IsSound, empty_cache}
+use Rattle.ddc_model.specs.Sound.{IsSound, empty_cache}
 use Rattle.ddc_model.proofs.Sound.{empty_sound}
 use Rattle.memory_store.proofs.store.Store.new.Goals as goal
 

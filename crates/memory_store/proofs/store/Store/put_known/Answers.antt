@@ -3,7 +3,7 @@ use Rattle.ddc_model.specs.declared.entry.Entry.TheVariants.{Put}
 use Rattle.ddc_model.specs.Closure.{AreNeeds, links_in}
 use Rattle.ddc_model.specs.Entries.{legal}
 use Rattle.ddc_model.specs.Sound.{Cache, IsSound}
-use Rattle.ddc_model.specs.Commands.{PutAs, Gives, changed, hour_of, is_empty, kept}
+use Rattle.ddc_model.specs.Commands.{PutAs, changed, hour_of, is_empty, kept}
 use Rattle.ddc_model.proofs.Sound.{put_sound}
 use Rattle.ddc_model.proofs.Legal.{put_legal}
 use Rattle.memory_store.specs.Views.{Answers}

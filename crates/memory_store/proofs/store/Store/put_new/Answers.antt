@@ -1,9 +1,8 @@
-use Rattle.std.proofs.Common.{◌≡◌, ap, sym, ◌∙◌, subst, Ok, Some, None, true}
+use Rattle.std.proofs.Common.{◌≡◌, ap, sym, ◌∙◌, subst, Ok, Some, true}
 use Rattle.std.specs.FinMap as map
 use Rattle.ddc_model.specs.declared.entry.Entry.TheVariants.{Put}
 use Rattle.ddc_model.specs.declared.entry.Stored.{Stored}
-use Rattle.ddc_model.specs.State.{blob_name, blob_at}
-use Rattle.ddc_model.specs.Content.{named}
+use Rattle.ddc_model.specs.State.{blob_name}
 use Rattle.ddc_model.specs.Closure.{AreNeeds, links_in, with_links}
 use Rattle.ddc_model.specs.Entries.{legal}
 use Rattle.ddc_model.specs.Sound.{Cache, IsSound}

@@ -1,4 +1,4 @@
-use Rattle.std.proofs.Common.{◌≡◌, ap, sym, ◌∙◌, subst, [], Ok, Some, None, true, false, ℕ, Option, is_some}
+use Rattle.std.proofs.Common.{◌≡◌, ap, sym, ◌∙◌, [], None, ℕ, Option, is_some}
 use Rattle.std.specs.FinMap as map
 use Rattle.ddc_model.specs.declared.rows.SpaceRow.{SpaceRow}
 use Rattle.ddc_model.specs.declared.entry.Entry.TheVariants.{Space}
