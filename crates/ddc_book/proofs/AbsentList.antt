@@ -84,10 +84,13 @@ module _ (s : State) (space : List ℕ) (hashes : List IoHash) where
       ∙ is_some-find io_hash_cmp q (gone s space hashes) ∙ has_each s space hashes q
 
   pub absent_list : (absent : List IoHash) × AreAbsent s space hashes absent
-  absent_list = (keys (finite.entries listed), record {
-    ascending = sorted_keys (finite.entries listed) (finite.entries_sorted listed);
-    exactly = λ q. both_hold (has_hash (keys (finite.entries listed)) q) (has_hash hashes q) (has_blob s space q) (has_listed q);
-  })
+  absent_list = (
+    keys (finite.entries listed),
+    record {
+      ascending = sorted_keys (finite.entries listed) (finite.entries_sorted listed);
+      exactly = λ q. both_hold (has_hash (keys (finite.entries listed)) q) (has_hash hashes q) (has_blob s space q) (has_listed q);
+    },
+  )
 
   -- so the question has an answer
   pub some_answer : (answer : Result (List IoHash) StoreFault) × ExistAs s space hashes answer

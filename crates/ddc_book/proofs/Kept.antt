@@ -106,7 +106,7 @@ module _ {D : Type 0} (tells : Bool) (meaning : D → Meaning) (old : BookView D
     (later : faults_of meaning old ≤ devices_faults meaning devices)
     (past : EachSince (line_of meaning old) (devices_line meaning devices) (λ _. Unit {0}))
     (any_moment : (generation : ℕ) (bodies : List (List ℕ)) → IsReady (meaning old.devices.first) generation bodies end
-        → EachSince (line_of meaning old) (devices_line meaning devices) (λ im. LoadsEither generation bodies body im.first)) where
+    → EachSince (line_of meaning old) (devices_line meaning devices) (λ im. LoadsEither generation bodies body im.first)) where
   abbrev bytes : List ℕ
   bytes = bytes_or_none blob
 
@@ -137,8 +137,8 @@ module _ {D : Type 0} (tells : Bool) (meaning : D → Meaning) (old : BookView D
   run told =
       let stored = book.now told unbroken in
       weaker (line_of meaning old) new_line _ Either (any_moment stored.generation stored.bodies stored.ready) (λ im loads.
-          ⊎_elim (λ before. inl (record { holds = record { generation = stored.generation; bodies = stored.bodies; loads = before; leads = stored.leads }; whole = book.whole }))
-          (λ after. inr (record { holds = record { generation = stored.generation; bodies = stored.bodies ++ body ∷ []; loads = after; leads = leads_more (empty_cache limits) old.cache stored.bodies body entry bytes stored.leads is fit.legal }; whole = fit.whole })) loads)
+      ⊎_elim (λ before. inl (record { holds = record { generation = stored.generation; bodies = stored.bodies; loads = before; leads = stored.leads }; whole = book.whole }))
+      (λ after. inr (record { holds = record { generation = stored.generation; bodies = stored.bodies ++ body ∷ []; loads = after; leads = leads_more (empty_cache limits) old.cache stored.bodies body entry bytes stored.leads is fit.legal }; whole = fit.whole })) loads)
 
   was_honest : IsHonest tells new_line limits old.opened → IsHonest tells (line_of meaning old) limits old.opened
   was_honest honest = record { told = honest.told; sound = λ im left. honest.sound im (past.keeps old.opened im book.time left) }

@@ -34,9 +34,15 @@ links_short [] all = refl
 links_short (l ∷ links) all = omega (arith, all.0.count, links_short links all.1, length-append (link l) (flat_map link links))
 
 stored_short : (blob : Stored) → IsStored blob → length (stored blob) ≡ 40 + 21 * length blob.links
-stored_short blob is = omega (arith, is.0.count, links_short blob.links is.4,
-    length-append (blob.hash.0 ++ eight blob.len ++ eight blob.start ++ four (length blob.links)) (flat_map link blob.links),
-    length-append (blob.hash.0 ++ eight blob.len ++ eight blob.start) (four (length blob.links)), length-append (blob.hash.0 ++ eight blob.len) (eight blob.start), length-append blob.hash.0 (eight blob.len))
+stored_short blob is = omega (
+  arith,
+  is.0.count,
+  links_short blob.links is.4,
+  length-append (blob.hash.0 ++ eight blob.len ++ eight blob.start ++ four (length blob.links)) (flat_map link blob.links),
+  length-append (blob.hash.0 ++ eight blob.len ++ eight blob.start) (four (length blob.links)),
+  length-append (blob.hash.0 ++ eight blob.len) (eight blob.start),
+  length-append blob.hash.0 (eight blob.len),
+)
 
 fresh_short : (fresh : Option Stored) → IfSome fresh IsStored → length (optional stored fresh) ≤ 41 + 21 * added_links fresh
 fresh_short None is = omega arith

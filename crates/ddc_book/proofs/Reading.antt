@@ -88,9 +88,12 @@ module _ (cache : Cache) (whole : AreWhole cache.index) (has : HasBytes cache) (
   module _ (hash : IoHash) (is : object_of cache.index name ≡ Ok hash) where
     pub held_damaged : (fault : StoreFault) → Err fault ≡ serve cache name.space hash → HeldAs cache past name hour (Err fault) None
     held_damaged fault bad =
-        let got = gets cache whole has name hour hash is in
-        (Ok (hash, got.0), touch_entry cache.index name hour, got.2,
-        subst (λ (r : Result (List ℕ) StoreFault). ServedWhere r cache.index past hash (touch_entry cache.index name hour) (Err fault) None) (bad ∙ serves_found cache whole has name hash got.0 is got.1) (refl, refl))
+        let got = gets cache whole has name hour hash is in (
+          Ok (hash, got.0),
+          touch_entry cache.index name hour,
+          got.2,
+          subst (λ (r : Result (List ℕ) StoreFault). ServedWhere r cache.index past hash (touch_entry cache.index name hour) (Err fault) None) (bad ∙ serves_found cache whole has name hash got.0 is got.1) (refl, refl),
+        )
 
     -- what stands in the way is that the bytes are damaged
     pub is_refusal : (fault : StoreFault) → Err fault ≡ serve cache name.space hash → IsRefusal fault
@@ -103,9 +106,12 @@ module _ (cache : Cache) (whole : AreWhole cache.index) (has : HasBytes cache) (
 
     pub held_served : (bytes : List ℕ) → Ok bytes ≡ serve cache name.space hash → (made : Option Entry) → made ≡ touch_with_room cache.index past name hour → HeldAs cache past name hour (Ok (hash, bytes)) made
     held_served bytes good made touched =
-        let got = gets cache whole has name hour hash is in
-        (Ok (hash, got.0), touch_entry cache.index name hour, got.2,
-        subst (λ (r : Result (List ℕ) StoreFault). ServedWhere r cache.index past hash (touch_entry cache.index name hour) (Ok (hash, bytes)) made) (good ∙ serves_found cache whole has name hash got.0 is got.1) (refl, touched))
+        let got = gets cache whole has name hour hash is in (
+          Ok (hash, got.0),
+          touch_entry cache.index name hour,
+          got.2,
+          subst (λ (r : Result (List ℕ) StoreFault). ServedWhere r cache.index past hash (touch_entry cache.index name hour) (Ok (hash, bytes)) made) (good ∙ serves_found cache whole has name hash got.0 is got.1) (refl, touched),
+        )
 
   -- a touch for which there is room
   pub room_of : (entry : Entry) → Some entry ≡ touch_with_room cache.index past name hour → (no_room cache.index past entry ≡ None) × (Some entry ≡ touch_entry cache.index name hour)

@@ -71,7 +71,9 @@ impl<D: Disk> Book<D> {
         ensures steps { result.1 ≡ self.steps }
     {
         let Book {
-            devices, history, ..
+            devices,
+            history,
+            ..
         } = self;
         (devices.into_devices(), history.into_rows())
     }

@@ -150,12 +150,7 @@ impl<D: Disk> Book<D> {
     ///
     /// `Broken`, `UnknownSpace`, `NotFound` of the reference, `NotFinalised`, `NoMemory`, `DiskFailed`, or `Damaged`
     /// where the object's bytes have another hash. The book is as before, but after `DiskFailed`.
-    pub fn get_ref(
-        &mut self,
-        alloc: Global,
-        name: &RefName,
-        hour: u32,
-    ) -> Result<Held, StoreFault>
+    pub fn get_ref(&mut self, alloc: Global, name: &RefName, hour: u32) -> Result<Held, StoreFault>
         ensures gives { Gives self.old [] self.new (λ answer made. HeldAs self.old.cache (past_of self.old.steps) name.now hour (got answer) made) result }
         ensures goes_on { GoesOn D.tells D.meaning self.old self.new }
         ensures cause { result ≡ Err StoreFault.DiskFailed → Rose (faults_of D.meaning self.old) (faults_of D.meaning self.new) }

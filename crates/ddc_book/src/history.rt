@@ -36,11 +36,7 @@ impl Model for History {
 
 impl History {
     /// The history of a store that is opened now, with what these steps left.
-    pub(crate) fn opened(
-        steps: Vec<Step>,
-        limits: Limits,
-        faults: u64,
-    ) -> Result<History, NoMemory>
+    pub(crate) fn opened(steps: Vec<Step>, limits: Limits, faults: u64) -> Result<History, NoMemory>
         requires { broken_by steps.items ≡ None }
         ensures { IfOk result (λ history. history ≡ steps.items ++ Loaded limits faults ∷ []) }
     {

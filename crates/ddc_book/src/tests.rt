@@ -1,1 +1,635 @@
-// Tests.
+//! The commands on small stores. The hashes are from b3sum.
+
+use crate::{Book, Held, Opened};
+use ddc_disk::{Devices, Disk, MemDisk};
+use ddc_model::{Limits, Step, StoreFault, What};
+use ddc_names::{Bucket, IoHash, Namespace, NoMemory, RefKey, RefName, RefSpot, Rows};
+use ddc_state::Checked;
+use io_hash::Intake;
+use std::alloc::Global;
+use std::test::Fail;
+use std::thread::join;
+
+// Of the byte `a`.
+const LEAF: IoHash = IoHash([
+    0x17, 0x76, 0x2f, 0xdd, 0xd9, 0x69, 0xa4, 0x53, 0x92, 0x5d, 0x65, 0x71, 0x7a, 0xc3, 0xee, 0xa2,
+    0x13, 0x20, 0xb6, 0x6b,
+]);
+
+// Of the byte `b`.
+const OTHER_LEAF: IoHash = IoHash([
+    0x10, 0xe5, 0xcf, 0x3d, 0x3c, 0x8a, 0x4f, 0x9f, 0x34, 0x68, 0xc8, 0xcc, 0x58, 0xee, 0xa8, 0x48,
+    0x92, 0xa2, 0x2f, 0xda,
+]);
+
+// Of the object that links to the leaf twice, as bytes.
+const TWICE: IoHash = IoHash([
+    0x9f, 0xee, 0xeb, 0x8e, 0x19, 0x53, 0x85, 0xc5, 0x60, 0xac, 0x01, 0x56, 0x0d, 0xd8, 0x50, 0x90,
+    0x4e, 0x7e, 0x69, 0x80,
+]);
+
+// Of the object that links to the leaf, as bytes.
+const INNER: IoHash = IoHash([
+    0x8d, 0xe1, 0xd1, 0xf7, 0xa0, 0x2e, 0x96, 0x5d, 0x9f, 0x4c, 0xfa, 0xdd, 0x9e, 0x2a, 0x6e, 0xe6,
+    0x66, 0x90, 0x72, 0x2d,
+]);
+
+// Of the object that links to the inner object, as an object.
+const OUTER: IoHash = IoHash([
+    0x5c, 0x67, 0x21, 0x54, 0xf3, 0xb7, 0xdd, 0x80, 0x8b, 0x1c, 0xc5, 0x4d, 0x68, 0x86, 0x23, 0x9e,
+    0xc8, 0x3e, 0x92, 0xab,
+]);
+
+// Of the object without fields.
+const EMPTY: IoHash = IoHash([
+    0xcd, 0x60, 0xd7, 0x52, 0x82, 0xba, 0xe1, 0xf9, 0x75, 0x4e, 0x8c, 0xbc, 0x75, 0x90, 0xd8, 0xb3,
+    0xed, 0x2f, 0x4c, 0x93,
+]);
+
+const TWICE_OBJECT: &[u8] =
+    b"\x02*\x0f\x17v/\xdd\xd9i\xa4S\x92]eqz\xc3\xee\xa2\x13 \xb6k\x0f\x17v/\xdd\xd9i\xa4S\x92]eqz\xc3\xee\xa2\x13 \xb6k";
+
+const THREE_TIMES: &[u8] =
+    b"\x02?\x0f\x17v/\xdd\xd9i\xa4S\x92]eqz\xc3\xee\xa2\x13 \xb6k\x0f\x17v/\xdd\xd9i\xa4S\x92]eqz\xc3\xee\xa2\x13 \xb6k\x0f\x17v/\xdd\xd9i\xa4S\x92]eqz\xc3\xee\xa2\x13 \xb6k";
+
+const INNER_OBJECT: &[u8] = b"\x02\x15\x0f\x17v/\xdd\xd9i\xa4S\x92]eqz\xc3\xee\xa2\x13 \xb6k";
+
+const OUTER_OBJECT: &[u8] = b"\x02\x15\x0e\x8d\xe1\xd1\xf7\xa0.\x96]\x9fL\xfa\xdd\x9e*n\xe6f\x90r-";
+
+const TIED_OBJECT: &[u8] = b"\x02\x15\x0e\x17v/\xdd\xd9i\xa4S\x92]eqz\xc3\xee\xa2\x13 \xb6k";
+
+const EMPTY_OBJECT: &[u8] = b"\x02\x00";
+
+// A command; a reference is named by the byte of its key.
+#[derive(Clone, Copy)]
+enum Call {
+    SetSpace,
+    Upload(&'static [u8]),
+    Put(u8, &'static [u8]),
+    Finalise(u8, IoHash),
+    Get(u8),
+    Delete(u8),
+    Peek(u8),
+    Has(IoHash),
+    Open(IoHash),
+    Exist(&'static [IoHash]),
+    Verify(IoHash),
+    // The hour at which the blob was stored or named last.
+    Hour(IoHash),
+}
+
+// What it answers.
+#[derive(Clone, Copy)]
+enum Told {
+    Done,
+    Hashes(&'static [IoHash]),
+    Object(IoHash, &'static [u8]),
+    Bytes(&'static [u8]),
+    Length(u64),
+    Reference(IoHash, u64),
+    At(u32),
+    Fault(StoreFault),
+}
+
+// A command in a namespace at an hour, and its answer.
+#[derive(Clone, Copy)]
+struct Line {
+    space: &'static str,
+    hour: u32,
+    call: Call,
+    told: Told,
+}
+
+fn at(hour: u32, call: Call, told: Told) -> Line {
+    Line {
+        space: "game",
+        hour,
+        call,
+        told,
+    }
+}
+
+fn refused(hour: u32, call: Call, fault: StoreFault) -> Line {
+    at(hour, call, Told::Fault(fault))
+}
+
+fn elsewhere(call: Call) -> Line {
+    Line {
+        space: "other",
+        ..refused(7, call, StoreFault::UnknownSpace)
+    }
+}
+
+fn checked(alloc: Global, bytes: &[u8]) -> Result<Checked, Fail> {
+    let mut intake = Intake::new(alloc, bytes.len() as u64);
+    intake.take(bytes)?;
+    Ok(Checked::new(alloc, intake.finish())?)
+}
+
+fn name_of(space: Namespace, key: u8) -> Result<RefName, Fail> {
+    let bucket = Bucket::parse("maps")?;
+    let key = RefKey([key; 20]);
+    Ok(RefName {
+        space,
+        spot: RefSpot { bucket, key },
+    })
+}
+
+// A disk whose call with this number fails, where there is one.
+fn disk(alloc: Global, failing: Option<u64>) -> Result<MemDisk, NoMemory> {
+    let mut calls = Vec::new(alloc);
+    if let Some(call) = failing {
+        calls.push(call)?;
+    }
+    Ok(MemDisk::new(alloc, Rows::of_vec(calls)))
+}
+
+// An empty store, whose first file fails at a call. It was made by 11 calls of it.
+fn made(alloc: Global, limits: Limits, failing: Option<u64>) -> Option<Book<MemDisk>> {
+    if limits.kept == 0 || limits.units > 2_251_799_813_685_248 {
+        return None;
+    }
+    let Ok(first) = disk(alloc, failing) else {
+        return None;
+    };
+    let devices = Devices {
+        first,
+        second: MemDisk::new(alloc, Rows::new(alloc)),
+        blobs: MemDisk::new(alloc, Rows::new(alloc)),
+    };
+    match Book::create(alloc, devices, limits) {
+        Ok(book) => Some(book),
+        Err(_back) => None,
+    }
+}
+
+fn is_fault(fault: StoreFault, told: Told) -> bool {
+    match told {
+        Told::Fault(wanted) => fault == wanted,
+        _ => false,
+    }
+}
+
+fn is_done(answer: Result<(), StoreFault>, told: Told) -> bool {
+    match answer {
+        Ok(()) => matches!(told, Told::Done),
+        Err(fault) => is_fault(fault, told),
+    }
+}
+
+fn is_list(answer: Result<Rows<IoHash>, StoreFault>, told: Told) -> bool {
+    match answer {
+        Ok(rows) => match told {
+            Told::Hashes(hashes) => rows.as_slice() == hashes,
+            _ => false,
+        },
+        Err(fault) => is_fault(fault, told),
+    }
+}
+
+fn is_held(answer: Result<Held, StoreFault>, told: Told) -> bool {
+    match answer {
+        Ok(held) => match told {
+            Told::Object(hash, bytes) => held.hash == hash && held.bytes.as_slice() == bytes,
+            _ => false,
+        },
+        Err(fault) => is_fault(fault, told),
+    }
+}
+
+fn is_opened(answer: Result<Opened, StoreFault>, told: Told) -> bool {
+    match answer {
+        Ok(Opened::Whole(found)) => match told {
+            Told::Bytes(bytes) => found.as_slice() == bytes,
+            _ => false,
+        },
+        Err(fault) => is_fault(fault, told),
+    }
+}
+
+fn is_length(answer: Result<u64, StoreFault>, told: Told) -> bool {
+    match answer {
+        Ok(len) => match told {
+            Told::Length(wanted) => len == wanted,
+            _ => false,
+        },
+        Err(fault) => is_fault(fault, told),
+    }
+}
+
+fn is_reference(answer: Result<(IoHash, u64), StoreFault>, told: Told) -> bool {
+    match answer {
+        Ok((hash, len)) => match told {
+            Told::Reference(wanted, wanted_len) => hash == wanted && len == wanted_len,
+            _ => false,
+        },
+        Err(fault) => is_fault(fault, told),
+    }
+}
+
+fn is_at(book: &Book<MemDisk>, space: &Namespace, hash: &IoHash, told: Told) -> bool {
+    match book.index().blob(space, hash) {
+        Some(row) => match told {
+            Told::At(hour) => row.at == hour,
+            _ => false,
+        },
+        None => false,
+    }
+}
+
+fn uploads(
+    alloc: Global,
+    book: &mut Book<MemDisk>,
+    space: Namespace,
+    bytes: &[u8],
+    line: &Line,
+) -> Result<bool, Fail> {
+    let blob = checked(alloc, bytes)?;
+    if blob.whole().bytes().len() > 67_108_864 {
+        return Ok(false);
+    }
+    Ok(is_done(book.upload(alloc, space, blob, line.hour), line.told))
+}
+
+fn puts(
+    alloc: Global,
+    book: &mut Book<MemDisk>,
+    name: RefName,
+    bytes: &[u8],
+    line: &Line,
+) -> Result<bool, Fail> {
+    let object = checked(alloc, bytes)?;
+    if !object.is_object() || object.whole().bytes().len() > 67_108_864 {
+        return Ok(false);
+    }
+    Ok(is_list(book.put(alloc, name, object, line.hour), line.told))
+}
+
+// Whether a command of a reference answers so.
+fn of_reference(
+    alloc: Global,
+    book: &mut Book<MemDisk>,
+    name: RefName,
+    line: &Line,
+) -> Result<bool, Fail> {
+    Ok(match line.call {
+        Call::Put(_, bytes) => puts(alloc, book, name, bytes, line)?,
+        Call::Finalise(_, hash) => is_list(book.finalise(alloc, &name, hash, line.hour), line.told),
+        Call::Get(_) => is_held(book.get_ref(alloc, &name, line.hour), line.told),
+        Call::Delete(_) => is_done(book.delete(alloc, &name, line.hour), line.told),
+        Call::Peek(_) => is_reference(book.peek_ref(&name), line.told),
+        _ => false,
+    })
+}
+
+// Whether the command answers so.
+fn answers(alloc: Global, book: &mut Book<MemDisk>, line: &Line) -> Result<bool, Fail> {
+    let space = Namespace::parse(line.space)?;
+    Ok(match line.call {
+        Call::SetSpace => is_done(book.set_space(alloc, space, 24, 4), line.told),
+        Call::Upload(bytes) => uploads(alloc, book, space, bytes, line)?,
+        Call::Put(key, _)
+        | Call::Finalise(key, _)
+        | Call::Get(key)
+        | Call::Delete(key)
+        | Call::Peek(key) => of_reference(alloc, book, name_of(space, key)?, line)?,
+        Call::Has(hash) => is_length(book.has_blob(&space, hash), line.told),
+        Call::Open(hash) => is_opened(book.open_blob(alloc, &space, hash), line.told),
+        Call::Exist(hashes) => is_list(book.exist(alloc, &space, hashes), line.told),
+        Call::Verify(hash) => is_done(book.verify(&space, hash), line.told),
+        Call::Hour(hash) => is_at(book, &space, &hash, line.told),
+    })
+}
+
+// The place of the first line that is answered otherwise, from a store with the one namespace on, and the store.
+fn first_wrong(
+    alloc: Global,
+    book: Option<Book<MemDisk>>,
+    lines: &[Line],
+) -> Result<(Option<usize>, Option<Book<MemDisk>>), Fail> {
+    let Some(mut book) = book else {
+        return Ok((Some(0), None));
+    };
+    let made = answers(alloc, &mut book, &at(7, Call::SetSpace, Told::Done))?;
+    for (place, line) in lines.iter().enumerate() {
+        if !answers(alloc, &mut book, line)? {
+            return Ok((Some(place), Some(book)));
+        }
+    }
+    Ok((if made { None } else { Some(0) }, Some(book)))
+}
+
+// The same, with the limits of a store that is served, and no call that fails.
+fn wrong(alloc: Global, lines: &[Line]) -> Result<Option<usize>, Fail> {
+    let (wrong, _book) = first_wrong(alloc, made(alloc, Limits::standard(), None), lines)?;
+    Ok(wrong)
+}
+
+#[test]
+fn a_put_lists_what_is_missing_and_is_finalised_once_it_is_there(
+    rt: HostRuntime,
+) -> Result<(), Fail> {
+    let lines = [
+        at(7, Call::Put(1, TWICE_OBJECT), Told::Hashes(&[LEAF])),
+        at(7, Call::Get(1), Told::Fault(StoreFault::NotFinalised)),
+        at(7, Call::Finalise(1, TWICE), Told::Hashes(&[LEAF])),
+        at(8, Call::Upload(b"a"), Told::Done),
+        at(8, Call::Get(1), Told::Fault(StoreFault::NotFinalised)),
+        at(8, Call::Finalise(1, TWICE), Told::Hashes(&[])),
+        at(8, Call::Finalise(1, TWICE), Told::Hashes(&[])),
+        at(9, Call::Get(1), Told::Object(TWICE, TWICE_OBJECT)),
+        at(9, Call::Open(LEAF), Told::Bytes(b"a")),
+        at(9, Call::Open(TWICE), Told::Bytes(TWICE_OBJECT)),
+    ];
+    assert_eq!(rt; wrong(rt.alloc(), &lines)?, None);
+    Ok(())
+}
+
+#[test]
+fn an_inner_object_is_missing_before_what_it_links_to(rt: HostRuntime) -> Result<(), Fail> {
+    let lines = [
+        at(7, Call::Put(1, OUTER_OBJECT), Told::Hashes(&[INNER])),
+        at(7, Call::Upload(INNER_OBJECT), Told::Done),
+        at(7, Call::Finalise(1, OUTER), Told::Hashes(&[LEAF])),
+        at(7, Call::Upload(b"a"), Told::Done),
+        at(7, Call::Finalise(1, OUTER), Told::Hashes(&[])),
+        at(7, Call::Get(1), Told::Object(OUTER, OUTER_OBJECT)),
+    ];
+    assert_eq!(rt; wrong(rt.alloc(), &lines)?, None);
+    Ok(())
+}
+
+#[test]
+fn an_attached_object_that_is_none_needs_nothing_further(rt: HostRuntime) -> Result<(), Fail> {
+    let lines = [
+        at(7, Call::Upload(b"a"), Told::Done),
+        at(7, Call::Put(1, TIED_OBJECT), Told::Hashes(&[])),
+    ];
+    assert_eq!(rt; wrong(rt.alloc(), &lines)?, None);
+    Ok(())
+}
+
+#[test]
+fn the_old_object_is_served_until_the_new_one_is_final(rt: HostRuntime) -> Result<(), Fail> {
+    let lines = [
+        at(7, Call::Put(1, EMPTY_OBJECT), Told::Hashes(&[])),
+        at(7, Call::Put(1, INNER_OBJECT), Told::Hashes(&[LEAF])),
+        at(7, Call::Get(1), Told::Object(EMPTY, EMPTY_OBJECT)),
+        at(7, Call::Upload(b"a"), Told::Done),
+        at(7, Call::Get(1), Told::Object(EMPTY, EMPTY_OBJECT)),
+        at(7, Call::Finalise(1, INNER), Told::Hashes(&[])),
+        at(7, Call::Get(1), Told::Object(INNER, INNER_OBJECT)),
+    ];
+    assert_eq!(rt; wrong(rt.alloc(), &lines)?, None);
+    Ok(())
+}
+
+#[test]
+fn refusals_say_what_is_not_there(rt: HostRuntime) -> Result<(), Fail> {
+    let lines = [
+        elsewhere(Call::Upload(b"a")),
+        elsewhere(Call::Put(1, EMPTY_OBJECT)),
+        elsewhere(Call::Finalise(1, LEAF)),
+        elsewhere(Call::Get(1)),
+        elsewhere(Call::Open(LEAF)),
+        at(
+            7,
+            Call::Finalise(1, LEAF),
+            Told::Fault(StoreFault::NotFound),
+        ),
+        at(7, Call::Get(1), Told::Fault(StoreFault::NotFound)),
+        at(7, Call::Open(LEAF), Told::Fault(StoreFault::NotFound)),
+        at(7, Call::Put(1, EMPTY_OBJECT), Told::Hashes(&[])),
+        at(
+            7,
+            Call::Finalise(1, LEAF),
+            Told::Fault(StoreFault::NotPending),
+        ),
+    ];
+    assert_eq!(rt; wrong(rt.alloc(), &lines)?, None);
+    Ok(())
+}
+
+#[test]
+fn limits_are_reached_and_not_passed(rt: HostRuntime) -> Result<(), Fail> {
+    let limits = Limits {
+        spaces: 1,
+        blobs: 2,
+        refs: 1,
+        links: 2,
+        ..Limits::standard()
+    };
+    let lines = [
+        Line {
+            space: "other",
+            ..at(
+                7,
+                Call::SetSpace,
+                Told::Fault(StoreFault::Full {
+                    what: What::Spaces,
+                    limit: 1,
+                }),
+            )
+        },
+        at(7, Call::SetSpace, Told::Done),
+        at(
+            7,
+            Call::Upload(THREE_TIMES),
+            Told::Fault(StoreFault::Full {
+                what: What::Links,
+                limit: 2,
+            }),
+        ),
+        at(7, Call::Put(1, TWICE_OBJECT), Told::Hashes(&[LEAF])),
+        at(
+            7,
+            Call::Put(2, TWICE_OBJECT),
+            Told::Fault(StoreFault::Full {
+                what: What::Refs,
+                limit: 1,
+            }),
+        ),
+        at(7, Call::Upload(b"a"), Told::Done),
+        at(
+            7,
+            Call::Upload(b"b"),
+            Told::Fault(StoreFault::Full {
+                what: What::Blobs,
+                limit: 2,
+            }),
+        ),
+        at(7, Call::Upload(b"a"), Told::Done),
+        at(7, Call::Hour(LEAF), Told::At(7)),
+    ];
+    let (wrong, _book) = first_wrong(rt.alloc(), made(rt.alloc(), limits, None), &lines)?;
+    assert_eq!(rt; wrong, None);
+    Ok(())
+}
+
+#[test]
+fn a_blob_that_is_there_is_pinned_anew(rt: HostRuntime) -> Result<(), Fail> {
+    let lines = [
+        at(7, Call::Upload(b"a"), Told::Done),
+        at(9, Call::Upload(b"a"), Told::Done),
+        at(8, Call::Upload(b"a"), Told::Done),
+        at(9, Call::Hour(LEAF), Told::At(9)),
+    ];
+    assert_eq!(rt; wrong(rt.alloc(), &lines)?, None);
+    Ok(())
+}
+
+#[test]
+fn a_blob_and_a_reference_are_read(rt: HostRuntime) -> Result<(), Fail> {
+    let lines = [
+        at(7, Call::Upload(b"a"), Told::Done),
+        at(7, Call::Put(1, INNER_OBJECT), Told::Hashes(&[])),
+        at(7, Call::Peek(1), Told::Reference(INNER, 23)),
+        at(7, Call::Has(LEAF), Told::Length(1)),
+        at(7, Call::Verify(INNER), Told::Done),
+        at(
+            7,
+            Call::Exist(&[TWICE, LEAF, EMPTY, TWICE]),
+            Told::Hashes(&[TWICE, EMPTY]),
+        ),
+        at(7, Call::Delete(1), Told::Done),
+        refused(7, Call::Get(1), StoreFault::NotFound),
+        refused(7, Call::Peek(1), StoreFault::NotFound),
+        refused(7, Call::Delete(1), StoreFault::NotFound),
+        refused(7, Call::Has(TWICE), StoreFault::NotFound),
+        refused(7, Call::Verify(TWICE), StoreFault::NotFound),
+        elsewhere(Call::Peek(1)),
+        elsewhere(Call::Delete(1)),
+        elsewhere(Call::Has(LEAF)),
+        elsewhere(Call::Verify(LEAF)),
+        elsewhere(Call::Exist(&[LEAF])),
+    ];
+    assert_eq!(rt; wrong(rt.alloc(), &lines)?, None);
+    Ok(())
+}
+
+// The namespace is the first of the three entries. Where there is no room for a fourth, a reference isn't touched.
+#[test]
+fn a_full_history_refuses_changes_and_serves(rt: HostRuntime) -> Result<(), Fail> {
+    let limits = Limits {
+        entries: 3,
+        ..Limits::standard()
+    };
+    let full = StoreFault::HistoryFull {
+        entries: 3,
+        links: 0,
+    };
+    let lines = [
+        at(7, Call::Put(1, EMPTY_OBJECT), Told::Hashes(&[])),
+        at(7, Call::Upload(b"a"), Told::Done),
+        refused(7, Call::Upload(b"b"), full),
+        refused(7, Call::Delete(1), full),
+        at(9, Call::Get(1), Told::Object(EMPTY, EMPTY_OBJECT)),
+        at(7, Call::Upload(b"a"), Told::Done),
+    ];
+    let (wrong, book) = first_wrong(rt.alloc(), made(rt.alloc(), limits, None), &lines)?;
+    assert_eq!(rt; wrong, None);
+    assert!(rt; book.is_some_and(|book: Book<MemDisk>| book.count() == 4));
+    Ok(())
+}
+
+// A store of one change, and then one of two.
+#[test]
+fn an_upload_takes_four_device_calls(rt: HostRuntime) -> Result<(), Fail> {
+    let alloc = rt.alloc();
+    let lines = [at(7, Call::Upload(b"a"), Told::Done)];
+    for (count, calls) in [(0, 15), (1, 19)] {
+        let (wrong, book) = first_wrong(
+            alloc,
+            made(alloc, Limits::standard(), None),
+            &lines[..count],
+        )?;
+        assert_eq!(rt; wrong, None);
+        let Some(book) = book else {
+            return Ok(());
+        };
+        assert_eq!(rt; book.into_devices().first.calls(), calls);
+    }
+    Ok(())
+}
+
+// The last call of the upload fails.
+#[test]
+fn a_store_whose_disk_failed_does_nothing_more(rt: HostRuntime) -> Result<(), Fail> {
+    let broken = StoreFault::Broken { faults: 1 };
+    let lines = [
+        refused(7, Call::Upload(b"a"), StoreFault::DiskFailed),
+        refused(7, Call::SetSpace, broken),
+        refused(7, Call::Upload(b"a"), broken),
+        refused(7, Call::Put(1, EMPTY_OBJECT), broken),
+        refused(7, Call::Finalise(1, EMPTY), broken),
+        refused(7, Call::Get(1), broken),
+        refused(7, Call::Delete(1), broken),
+        refused(7, Call::Peek(1), broken),
+        refused(7, Call::Has(LEAF), broken),
+        refused(7, Call::Open(LEAF), broken),
+        refused(7, Call::Exist(&[LEAF]), broken),
+        refused(7, Call::Verify(LEAF), broken),
+    ];
+    let (wrong, book) = first_wrong(
+        rt.alloc(),
+        made(rt.alloc(), Limits::standard(), Some(18)),
+        &lines,
+    )?;
+    assert_eq!(rt; wrong, None);
+    let Some(book) = book else {
+        return Ok(());
+    };
+    assert_eq!(rt; (book.count(), book.faults()), (4, 1));
+    assert!(rt;
+        matches!(
+            book.steps().last(),
+            Some(Step::Broke {
+                changed: true,
+                before: 0,
+                now: 1
+            })
+        )
+    );
+    Ok(())
+}
+
+// The blob is the last byte before the closing gate.
+#[test]
+fn bytes_that_were_changed_are_damaged(rt: HostRuntime) -> Result<(), Fail> {
+    let alloc = rt.alloc();
+    let lines = [at(7, Call::Upload(b"a"), Told::Done)];
+    let (wrong, book) = first_wrong(alloc, made(alloc, Limits::standard(), None), &lines)?;
+    assert_eq!(rt; wrong, None);
+    let Some(book) = book else {
+        return Ok(());
+    };
+    let mut devices = book.into_devices();
+    let Ok(len) = devices.first.len() else {
+        return Ok(());
+    };
+    assert_eq!(rt; devices.first.write_at(len.saturating_sub(2), b"b"), Ok(()));
+    let Ok(mut book) = Book::load(alloc, devices, Limits::standard()) else {
+        return Ok(());
+    };
+    let damaged = StoreFault::Damaged {
+        named: LEAF,
+        found: OTHER_LEAF,
+    };
+    assert!(rt; answers(alloc, &mut book, &refused(7, Call::Verify(LEAF), damaged))?);
+    assert!(rt; answers(alloc, &mut book, &refused(7, Call::Open(LEAF), damaged))?);
+    Ok(())
+}
+
+#[test]
+fn a_store_goes_from_thread_to_thread(rt: HostRuntime) -> Result<(), Fail> {
+    let alloc = rt.alloc();
+    let (Some(one), Some(other)) = (
+        made(alloc, Limits::standard(), None),
+        made(alloc, Limits::standard(), None),
+    ) else {
+        return Ok(());
+    };
+    let (front, back) = join(&rt, || one.into_devices(), || other.into_devices());
+    assert_eq!(rt; (front.faults(), back.faults()), (0, 0));
+    Ok(())
+}

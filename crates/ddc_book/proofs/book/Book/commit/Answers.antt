@@ -22,7 +22,7 @@ returns-in_default-keep-clause-goes_on g c =
     let v : BookView g.row.D.Denot = record { devices = c.self.inside.devices; cache = record { index = c.self.inside.index.state; bytes = c.self.inside.bytes }; steps = c.self.inside.history; opened = c.self.inside.opened } in
     let err = c.in_default-keep.ensures.err in
     let same : record { devices = c.self.inside.devices; cache = record { index = c.keep.new.index.state; bytes = c.keep.new.bytes }; steps = c.keep.new.history; opened = c.self.inside.opened } ≡ v =
-        λ i. record { devices = c.self.inside.devices; cache = record { index = err.0 i; bytes = err.1 i }; steps = err.2 i; opened = c.self.inside.opened } in
+    λ i. record { devices = c.self.inside.devices; cache = record { index = err.0 i; bytes = err.1 i }; steps = err.2 i; opened = c.self.inside.opened } in
     goes_between g.D.Disk.tells g.D.Disk.meaning c.self.view_is same (stays g.D.Disk.tells g.D.Disk.meaning v c.self.inside.journal g.met.D.Disk.rests c.self.invariant)
 
 pub invariant_of-self-in-Ok-append : goal.invariant_of-self-in-Ok-append

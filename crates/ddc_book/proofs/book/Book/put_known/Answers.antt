@@ -33,9 +33,9 @@ make-requires-clause-fit g c =
     let there = mapped (λ (blob : Blob). blob.row.at) (blob_at s name.space (named object.bytes)) ∙ c.requires.there in
     let entry = c.put_entry-entry.result in
     let is : entry ≡ Put name c.hash_of-root.result None (is_empty c.in-Ok.missing) (hour_of s c.args.hour) =
-        c.put_entry-entry.ensures ∙ ap (λ (b : BookView g.row.D.Denot). Put name c.hash_of-root.result None (is_empty c.in-Ok.missing) (hour_of b.cache.index c.args.hour)) same in
+    c.put_entry-entry.ensures ∙ ap (λ (b : BookView g.row.D.Denot). Put name c.hash_of-root.result None (is_empty c.in-Ok.missing) (hour_of b.cache.index c.args.hour)) same in
     let makes = known_put c.args.self.now.cache name object c.args.hour c.requires.known there c.added_refs.result c.added_refs.ensures c.in_default.ensures.fault
-        c.in-Ok.missing c.hash_of-root.result c.hash_of-root.ensures.hash c.in-Ok.ensures.needs entry is in
+    c.in-Ok.missing c.hash_of-root.result c.hash_of-root.ensures.hash c.in-Ok.ensures.needs entry is in
     let brings : Brings (fresh_of entry) None = subst (λ (e : Entry). Brings (fresh_of e) None) (sym is) tt in
     subst (λ (b : BookView g.row.D.Denot). IsFit b.cache entry None) (sym same)
     (put_fit c.args.self.now.cache c.requires.serves.whole name object c.args.hour c.hash_of-root.ensures.read c.requires.short c.in-Ok.missing entry None brings
@@ -50,9 +50,9 @@ returns-clause-gives g c =
     let there = mapped (λ (blob : Blob). blob.row.at) (blob_at s name.space (named object.bytes)) ∙ c.requires.there in
     let entry = c.put_entry-entry.result in
     let is : entry ≡ Put name c.hash_of-root.result None (is_empty c.in-Ok.missing) (hour_of s c.args.hour) =
-        c.put_entry-entry.ensures ∙ ap (λ (b : BookView g.row.D.Denot). Put name c.hash_of-root.result None (is_empty c.in-Ok.missing) (hour_of b.cache.index c.args.hour)) same in
+    c.put_entry-entry.ensures ∙ ap (λ (b : BookView g.row.D.Denot). Put name c.hash_of-root.result None (is_empty c.in-Ok.missing) (hour_of b.cache.index c.args.hour)) same in
     let makes = known_put c.args.self.now.cache name object c.args.hour c.requires.known there c.added_refs.result c.added_refs.ensures c.in_default.ensures.fault
-        c.in-Ok.missing c.hash_of-root.result c.hash_of-root.ensures.hash c.in-Ok.ensures.needs entry is in
+    c.in-Ok.missing c.hash_of-root.result c.hash_of-root.ensures.hash c.in-Ok.ensures.needs entry is in
     gives c.args.self.now c.make.new.self [] entry c.in-Ok.missing (PutAs s name object c.args.hour) makes
     object.bytes (known_alike c.args.self.now.cache [] object.bytes name c.hash_of-root.result _ _ entry is) c.make.result
     (subst (λ (b : BookView g.row.D.Denot). Gives b [] c.make.new.self (InRoom b entry c.in-Ok.missing) c.make.result) same c.make.ensures.gives)

@@ -33,11 +33,11 @@ make-requires-clause-fit g c =
     let absent = not_there s name.space (named object.bytes) c.requires.absent in
     let entry = c.put_entry-entry.result in
     let is : entry ≡ Put name c.hash_of-root.result (Some c.in-Ok.fresh) (is_empty c.in-Ok-missing_with.missing) (hour_of s c.args.hour) =
-        c.put_entry-entry.ensures ∙ ap (λ (b : BookView g.row.D.Denot). Put name c.hash_of-root.result (Some c.in-Ok.fresh) (is_empty c.in-Ok-missing_with.missing) (hour_of b.cache.index c.args.hour)) same in
+    c.put_entry-entry.ensures ∙ ap (λ (b : BookView g.row.D.Denot). Put name c.hash_of-root.result (Some c.in-Ok.fresh) (is_empty c.in-Ok-missing_with.missing) (hour_of b.cache.index c.args.hour)) same in
     let makes = new_put c.args.self.now.cache name object c.args.hour c.requires.known absent c.in-Ok.fresh c.in-Ok.ensures.stored c.added_refs.result c.added_refs.ensures c.in_default-full.ensures.fault
-        c.in-Ok-missing_with.missing c.hash_of-root.result c.hash_of-root.ensures.hash c.links.result.now c.links.ensures.links c.in-Ok-missing_with.ensures.needs entry is in
+    c.in-Ok-missing_with.missing c.hash_of-root.result c.hash_of-root.ensures.hash c.links.result.now c.links.ensures.links c.in-Ok-missing_with.ensures.needs entry is in
     let brings : Brings (fresh_of entry) (Some c.into_whole.result) = subst (λ (e : Entry). Brings (fresh_of e) (Some c.into_whole.result)) (sym is)
-        (ap (λ (blob : Stored). blob.len) c.in-Ok.ensures.stored ∙ ap (λ (l : List ℕ). length l) (sym c.into_whole.ensures)) in
+    (ap (λ (blob : Stored). blob.len) c.in-Ok.ensures.stored ∙ ap (λ (l : List ℕ). length l) (sym c.into_whole.ensures)) in
     subst (λ (b : BookView g.row.D.Denot). IsFit b.cache entry (Some c.into_whole.result)) (sym same)
     (put_fit c.args.self.now.cache c.requires.serves.whole name object c.args.hour c.hash_of-root.ensures.read c.requires.short c.in-Ok-missing_with.missing entry (Some c.into_whole.result) brings
     (ap (λ (l : List ℕ). changed c.args.self.now.cache l (Some entry)) (sym c.into_whole.ensures)) makes)
@@ -51,9 +51,9 @@ returns-clause-gives g c =
     let absent = not_there s name.space (named object.bytes) c.requires.absent in
     let entry = c.put_entry-entry.result in
     let is : entry ≡ Put name c.hash_of-root.result (Some c.in-Ok.fresh) (is_empty c.in-Ok-missing_with.missing) (hour_of s c.args.hour) =
-        c.put_entry-entry.ensures ∙ ap (λ (b : BookView g.row.D.Denot). Put name c.hash_of-root.result (Some c.in-Ok.fresh) (is_empty c.in-Ok-missing_with.missing) (hour_of b.cache.index c.args.hour)) same in
+    c.put_entry-entry.ensures ∙ ap (λ (b : BookView g.row.D.Denot). Put name c.hash_of-root.result (Some c.in-Ok.fresh) (is_empty c.in-Ok-missing_with.missing) (hour_of b.cache.index c.args.hour)) same in
     let makes = new_put c.args.self.now.cache name object c.args.hour c.requires.known absent c.in-Ok.fresh c.in-Ok.ensures.stored c.added_refs.result c.added_refs.ensures c.in_default-full.ensures.fault
-        c.in-Ok-missing_with.missing c.hash_of-root.result c.hash_of-root.ensures.hash c.links.result.now c.links.ensures.links c.in-Ok-missing_with.ensures.needs entry is in
+    c.in-Ok-missing_with.missing c.hash_of-root.result c.hash_of-root.ensures.hash c.links.result.now c.links.ensures.links c.in-Ok-missing_with.ensures.needs entry is in
     gives c.args.self.now c.make.new.self c.into_whole.result entry c.in-Ok-missing_with.missing (PutAs s name object c.args.hour) makes
     object.bytes (ap (λ (l : List ℕ). changed c.args.self.now.cache l (Some entry)) c.into_whole.ensures) c.make.result
     (subst (λ (b : BookView g.row.D.Denot). Gives b c.into_whole.result c.make.new.self (InRoom b entry c.in-Ok-missing_with.missing) c.make.result) same c.make.ensures.gives)
