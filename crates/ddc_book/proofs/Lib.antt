@@ -7,6 +7,6 @@ pub mod Giving
 pub mod Absent
 pub mod Once
 pub mod Replaying
-pub mod Openings
+pub mod OpenedBook
 pub mod Loading
 pub mod Creating

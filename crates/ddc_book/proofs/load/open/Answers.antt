@@ -5,7 +5,7 @@ use Rattle.ddc_book.specs.Opening.{Holds}
 use Rattle.ddc_book.specs.Replaying.{cache_of, IsReplayed, ReplayFault}
 use Rattle.ddc_book.specs.Found.{view_of}
 use Rattle.ddc_book.proofs.Loading.{fault_told, holds_told, ready_told}
-use Rattle.ddc_book.proofs.Openings.{limits_stay}
+use Rattle.ddc_book.proofs.OpenedBook.{limits_stay}
 use Rattle.ddc_book.proofs.load.open.Goals as goal
 
 pub returns-in-Err-replay-clause-fault : goal.returns-in-Err-replay-clause-fault

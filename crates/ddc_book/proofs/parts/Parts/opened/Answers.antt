@@ -2,7 +2,7 @@ use Rattle.std.proofs.Common.{◌≡◌, ap, ◌∙◌, ℕ, ◌++◌, ◌∷◌
 use Rattle.ddc_disk.specs.Images.{devices_faults}
 use Rattle.ddc_model.specs.declared.entry.Step.TheVariants.{Loaded}
 use Rattle.ddc_book.specs.Replaying.{cache_of}
-use Rattle.ddc_book.proofs.Openings.{book_opened}
+use Rattle.ddc_book.proofs.OpenedBook.{book_opened}
 use Rattle.ddc_book.proofs.parts.Parts.opened.Goals as goal
 
 pub returns-clause-book : goal.returns-clause-book
