@@ -1,5 +1,5 @@
 use Rattle.ddc_command.proofs.Noting.{notes_first, notes_then}
-use Rattle.ddc_command.proofs.notes.write_both.Goals as goal
+use Rattle.ddc_command.proofs.notes.write_two.Goals as goal
 
 pub returns-in-Ok : goal.returns-in-Ok
 returns-in-Ok g c = record {
