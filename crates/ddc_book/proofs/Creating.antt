@@ -1,8 +1,8 @@
 -- What a crash leaves while an empty store is made.
-use Rattle.std.proofs.Common.{◌≡◌, ◌⊎◌, inl, inr, ℕ, ◌+◌, ◌≤◌, ◌^◌, List, [], refl, ◌∙◌, subst, arith}
-use Rattle.std.specs.Prelude.{Option, None, Some, IfSome, false, min}
+use Rattle.std.proofs.Common.{◌≡◌, ◌⊎◌, inl, inr, ℕ, ◌≤◌, List, [], refl, ◌∙◌, subst, arith}
+use Rattle.std.specs.Prelude.{Option, None, Some, IfSome, false}
 use Rattle.ddc_disk.specs.Disk.{Meaning, Timeline, IsImage, EachSince, Rests}
-use Rattle.ddc_disk.specs.Images.{Images, devices_line, devices_faults, IsLent}
+use Rattle.ddc_disk.specs.Images.{Images, devices_line, IsLent}
 use Rattle.ddc_disk.specs.Since.{then_runs, weaker}
 use Rattle.ddc_disk.specs.Lending.{all_now, first_lent, lent_now}
 use Rattle.ddc_disk.specs.declared.devices.Devices.{Devices}

@@ -1,5 +1,5 @@
 -- What a journal that is loaded tells of the file.
-use Rattle.std.proofs.Common.{◌≡◌, ℕ, ◌+◌, ◌<◌, ◌≤◌, ◌^◌, inl, inr, List, [], ◌∷◌, ◌++◌, length, refl, sym, ◌∙◌, ap, subst, arith, length-append}
+use Rattle.std.proofs.Common.{◌≡◌, ℕ, ◌+◌, ◌<◌, ◌≤◌, ◌^◌, inr, List, [], ◌∷◌, ◌++◌, length, refl, ◌∙◌, ap, subst, arith, length-append}
 use Rattle.std.specs.Prelude.{Option, None, Some, IfSome, IsSome}
 use Rattle.ddc_disk.specs.Disk.{Meaning}
 use Rattle.ddc_disk.specs.Told.{told_file, at_told}
@@ -8,7 +8,7 @@ use Rattle.ddc_journal.specs.Faults.{LoadsAs}
 use Rattle.ddc_model.specs.declared.rows.Limits.{Limits}
 use Rattle.ddc_model.specs.Sound.{Cache, empty_cache}
 use Rattle.ddc_book.specs.Opening.{Leads, Holds, OpenFaultOf}
-use Rattle.ddc_book.specs.Replaying.{ReplayFault, StopsAt}
+use Rattle.ddc_book.specs.Replaying.{ReplayFault}
 use Rattle.ddc_book.specs.declared.fault.OpenFault.{OpenFault}
 use Rattle.ddc_book.specs.declared.fault.OpenFault.TheVariants.{DiskFailed, NotMade, Corrupt, BadVersion, Unsound, NoMemory}
 

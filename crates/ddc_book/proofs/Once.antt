@@ -1,12 +1,11 @@
 -- A file leads to one cache, or has one fault.
 use Rattle.std.proofs.Common.{◌≡◌, ◌≢◌, ◌⊎◌, inl, inr, ℕ, List, [], ◌∷◌, ◌++◌, length, refl, sym, ◌∙◌, ap, subst}
-use Rattle.std.specs.Prelude.{true, Some}
+use Rattle.std.specs.Prelude.{Some}
 use Rattle.std.specs.Ordering.{ordering_reverse}
 use Rattle.std.specs.declared.cmp.Ordering.{Ordering}
 use Rattle.std.specs.declared.cmp.Ordering.TheVariants.{Less, Equal, Greater}
 use Rattle.ddc_names.specs.declared.reference.RefName.{RefName}
 use Rattle.ddc_names.specs.Orders.{ref_name_cmp, ref_name_exact, ref_name_total}
-use Rattle.ddc_disk.specs.Images.{Images}
 use Rattle.ddc_journal.specs.Journal.{spelled, Loads}
 use Rattle.ddc_journal.specs.Faults.{FaultOf}
 use Rattle.ddc_journal.specs.Laws as journals
@@ -15,11 +14,10 @@ use Rattle.ddc_journal.specs.declared.fault.JournalFault.TheVariants as journal
 use Rattle.ddc_model.specs.declared.rows.Limits.{Limits}
 use Rattle.ddc_model.specs.declared.entry.Entry.{Entry}
 use Rattle.ddc_model.specs.State.{State}
-use Rattle.ddc_model.specs.Entries.{legal}
 use Rattle.ddc_model.specs.Sound.{Cache, empty_cache, IsFirstUnsound}
 use Rattle.ddc_model.specs.Commands.{changed}
 use Rattle.ddc_entry.specs.Laws.{OneFront}
-use Rattle.ddc_book.specs.Opening.{IsBody, Leads, Holds, Opens, IsNoChange, HasNoChangeAt, OpenFaultOf}
+use Rattle.ddc_book.specs.Opening.{IsBody, Leads, Holds, IsNoChange, HasNoChangeAt, OpenFaultOf}
 use Rattle.ddc_book.specs.Replaying.{of_journal}
 use Rattle.ddc_book.specs.Laws.{OneHolding, OpensOrFails, OneFault}
 use Rattle.ddc_book.specs.declared.fault.OpenFault.{OpenFault}

@@ -1,5 +1,5 @@
 -- What a book's type keeps once it is opened.
-use Rattle.std.proofs.Common.{◌≡◌, ℕ, ◌≤◌, List, [], ◌∷◌, ◌++◌, length, take, refl, sym, ◌∙◌, ap, subst, arith}
+use Rattle.std.proofs.Common.{◌≡◌, ℕ, ◌≤◌, List, [], ◌∷◌, ◌++◌, length, refl, sym, ◌∙◌, ap, subst, arith}
 use Rattle.std.proofs.lemmas.List.{take_all}
 use Rattle.std.specs.Prelude.{Bool, IsTrue, IsSome, IfSome, None, Some, Option}
 use Rattle.std.specs.FinMap.{get}
@@ -19,11 +19,11 @@ use Rattle.ddc_model.specs.declared.entry.Step.{Step}
 use Rattle.ddc_model.specs.declared.entry.Step.TheVariants.{Loaded, Change, Broke}
 use Rattle.ddc_model.specs.State.{State, empty_state}
 use Rattle.ddc_model.specs.Entries.{after, with_root, with_touch}
-use Rattle.ddc_model.specs.Sound.{Cache, empty_cache, HasBytes, AreWhole, IsSound}
+use Rattle.ddc_model.specs.Sound.{Cache, empty_cache, IsSound}
 use Rattle.ddc_model.specs.History.{after_step, after_steps, broken_by}
 use Rattle.ddc_book.specs.Opening.{Leads, Holds, Opens}
 use Rattle.ddc_book.specs.Laws.{OneHolding}
-use Rattle.ddc_book.specs.View.{BookView, IsBook, IsHonest, IsStored, OpensSome}
+use Rattle.ddc_book.specs.View.{IsBook, IsStored}
 use Rattle.ddc_book.specs.Replaying.{IsReplayed}
 use Rattle.ddc_book.specs.Found.{IsFound}
 
@@ -151,10 +151,10 @@ module _ {D : Type 0} (tells : Bool) (meaning : D → Meaning) (rests : (d : D) 
       }
 
   -- the same within limits that are those of the cache
-  pub book_opened : (given : Limits) (steps longer : List Step) (opened : ℕ) → IsFound tells (meaning devices.first) given cache steps end → longer ≡ steps ++ Loaded given faults ∷ [] → opened ≡ all.moment
+  pub book_opened : (given : Limits) (steps longer : List Step) (count opened : ℕ) → IsFound tells (meaning devices.first) given cache steps end → longer ≡ steps ++ Loaded given count ∷ [] → count ≡ faults → opened ≡ all.moment
       → IsBook tells meaning (record { devices = devices; cache = cache; steps = longer; opened = opened }) end
-  book_opened given steps longer opened found is at =
+  book_opened given steps longer count opened found is counted at =
       let same : given ≡ limits = sym (limits_stay given found.bodies cache steps found.replayed) in
       let here = subst (λ (l : Limits). IsFound tells (meaning devices.first) l cache steps end) same found in
-      let all_is : longer ≡ steps ++ Loaded limits faults ∷ [] = is ∙ ap (λ (l : Limits). steps ++ Loaded l faults ∷ []) same in
+      let all_is : longer ≡ steps ++ Loaded limits faults ∷ [] = is ∙ (λ i. steps ++ Loaded (same i) (counted i) ∷ []) in
       subst (λ (p : List Step × ℕ). IsBook tells meaning (record { devices = devices; cache = cache; steps = p.0; opened = p.1 }) end) (λ i. (sym all_is i, sym at i)) (is_book steps here)

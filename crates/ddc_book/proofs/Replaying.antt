@@ -16,7 +16,7 @@ use Rattle.ddc_model.specs.Commands.{changed}
 use Rattle.ddc_model.specs.Sound.{Cache, empty_cache, HasBytes}
 use Rattle.ddc_model.specs.History.{after_step, after_steps, broken_by}
 use Rattle.ddc_model.specs.Laws.{EmptyIsSound, LegalKeepsBytes, SoundHasBytes}
-use Rattle.ddc_book.specs.Opening.{IsBody, Leads, length_of}
+use Rattle.ddc_book.specs.Opening.{Leads, length_of}
 use Rattle.ddc_book.specs.Replaying.{IsReplayed, Makes}
 
 -- a step more

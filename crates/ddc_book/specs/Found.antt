@@ -1,5 +1,5 @@
 -- What was found on the devices of a store that is being opened.
-use Rattle.std.specs.Prelude.{◌≡◌, ℕ, Bool, IsTrue, List}
+use Rattle.std.specs.Prelude.{ℕ, Bool, IsTrue, List}
 use Rattle.ddc_disk.specs.Disk.{Meaning}
 use Rattle.ddc_disk.specs.declared.devices.Devices.{Devices}
 use Rattle.ddc_journal.specs.Journal.{IsReady}

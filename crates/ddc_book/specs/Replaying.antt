@@ -10,7 +10,7 @@ use Rattle.ddc_model.specs.declared.entry.Step.TheVariants.{Change}
 use Rattle.ddc_model.specs.State.{empty_state}
 use Rattle.ddc_model.specs.Entries.{legal}
 use Rattle.ddc_model.specs.Commands.{changed}
-use Rattle.ddc_model.specs.Sound.{Cache, empty_cache, HasBytes, AreWhole, IsFirstUnsound}
+use Rattle.ddc_model.specs.Sound.{Cache, empty_cache, HasBytes, IsFirstUnsound}
 use Rattle.ddc_model.specs.History.{after_steps, broken_by}
 use Rattle.ddc_book.specs.Opening.{IsBody, Leads, IsNoChange}
 use Rattle.ddc_book.specs.declared.replay.Replayed.{Replayed}

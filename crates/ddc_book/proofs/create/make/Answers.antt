@@ -1,6 +1,6 @@
 use Rattle.std.proofs.Common.{ℕ, [], sym, subst}
 use Rattle.ddc_journal.specs.Journal.{IsReady}
-use Rattle.ddc_model.specs.Sound.{Cache, AreWhole, empty_cache}
+use Rattle.ddc_model.specs.Sound.{Cache, AreWhole}
 use Rattle.ddc_book.specs.Replaying.{cache_of}
 use Rattle.ddc_book.proofs.Replaying.{replayed_none}
 use Rattle.ddc_book.proofs.create.make.Goals as goal

@@ -1,8 +1,8 @@
-use Rattle.std.proofs.Common.{◌≡◌, ℕ, ◌+◌, ◌<◌, ◌≤◌, List, length, get_or, take, drop, refl, sym, ap, subst, arith}
+use Rattle.std.proofs.Common.{ℕ, ◌+◌, ◌<◌, ◌≤◌, List, length, take, drop, refl, sym, ap, subst, arith}
 use Rattle.std.proofs.lemmas.List.{take_all}
 use Rattle.ddc_journal.specs.Journal.{items}
 use Rattle.ddc_book.specs.Opening.{IsNoChange}
-use Rattle.ddc_book.specs.Replaying.{cache_of, IsReplayed, Makes, MakesOrNot}
+use Rattle.ddc_book.specs.Replaying.{cache_of, IsReplayed, Makes}
 use Rattle.ddc_book.proofs.Replaying.{around, items_more, next, replayed_none, replayed_push}
 use Rattle.ddc_book.proofs.replay.replay_all.Goals as goal
 

@@ -1,4 +1,4 @@
-use Rattle.std.proofs.Common.{◌≡◌, ℕ, ◌+◌, ◌-◌, ◌^◌, take, length}
+use Rattle.std.proofs.Common.{◌≡◌, ◌+◌, ◌-◌, ◌^◌, take, length}
 use Rattle.std.specs.Prelude.{min}
 use Rattle.ddc_journal.specs.Journal.{items}
 use Rattle.ddc_book.specs.Replaying.{cache_of, IsReplayed}
