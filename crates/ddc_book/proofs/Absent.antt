@@ -1,6 +1,6 @@
 -- Which of the hashes that are named are absent.
-use Rattle.std.specs.Prelude.{◌≡◌, ℕ, ◌+◌, ◌<◌, Bool, true, false, not, ◌&&◌, ◌||◌, cond, List, [], take, length, get_or, Option, None, Some, is_some, IsTrue, ◌↔◌, option_map, refl}
-use Rattle.std.proofs.Common.{ap, sym, ◌∙◌, arith}
+use Rattle.std.specs.Prelude.{◌≡◌, ℕ, ◌+◌, ◌<◌, ◌≤◌, Bool, true, false, not, ◌&&◌, ◌||◌, cond, List, [], take, length, get_or, Option, None, Some, is_some, IsTrue, ◌↔◌, option_map, refl}
+use Rattle.std.proofs.Common.{ap, sym, ◌∙◌}
 use Rattle.std.proofs.lemmas.List.{take_all}
 use Rattle.std.proofs.lemmas.List.Folds.{list_any_more}
 use Rattle.std.specs.BTreeMap.{is_at}
@@ -32,9 +32,16 @@ without_one true a c false f e = let no : false ≡ true = f refl in absurd (cc)
 without_one false true c b f e = e
 without_one false false c b f e = e
 
-module _ (s : State) (space : List ℕ) (hashes : List IoHash) (i : ℕ) (hash : IoHash) (lt : i < length hashes) (here : get_or hashes i hash ≡ hash) where
+pub mapped : {A B : Type 0} (f : A → B) (o : Option A) → is_some o ≡ is_some (option_map f o)
+mapped f None = refl
+mapped f (Some a) = refl
+
+module _ (s : State) (space : List ℕ) (hashes : List IoHash) (i : ℕ) (other : IoHash) (lt : i < length hashes) where
+  abbrev hash : IoHash
+  hash = get_or hashes i other
+
   more : (q : IoHash) → has_hash (take (i + 1) hashes) q ≡ (has_hash (take i hashes) q || is_at (io_hash_cmp hash) q)
-  more q = list_any_more (is_at (io_hash_cmp q)) hashes i hash lt ∙ ap (λ (h : IoHash). has_hash (take i hashes) q || is_at (io_hash_cmp q) h) here
+  more q = list_any_more (is_at (io_hash_cmp q)) hashes i other lt
       ∙ ap (λ (b : Bool). has_hash (take i hashes) q || b) ((eq_by_cmp_equiv io_hash_total).symm q hash)
 
   pub one_added : (old new : BTreeSet IoHash) → has_blob s space hash ≡ false → ((q : IoHash) → contains io_hash_cmp new q ≡ cond (is_at (io_hash_cmp hash) q) true (contains io_hash_cmp old q))
@@ -54,9 +61,9 @@ both_hold c true true e = (λ t. absurd (cc), λ p. absurd (cc))
 both_hold c false b e = (λ t. absurd (cc), λ p. absurd (cc))
 both_hold false true false e = absurd (cc)
 
-pub all_sought : (s : State) (space : List ℕ) (hashes : List IoHash) (i : ℕ) (found : BTreeSet IoHash) (list : List IoHash) → i ≡ length hashes → IsSought s space hashes i found → list ≡ found.keys → IsStrictlySortedBy io_hash_cmp list → AreAbsent s space hashes list
+pub all_sought : (s : State) (space : List ℕ) (hashes : List IoHash) (i : ℕ) (found : BTreeSet IoHash) (list : List IoHash) → length hashes ≤ i → IsSought s space hashes i found → list ≡ found.keys → IsStrictlySortedBy io_hash_cmp list → AreAbsent s space hashes list
 all_sought s space hashes i found list end sought same ordered = record {
   ascending = ordered;
   exactly = λ q. both_hold (has_hash list q) (has_hash hashes q) (has_blob s space q)
-      (ap (λ (l : List IoHash). has_hash l q) same ∙ sought q ∙ ap (λ (n : ℕ). has_hash (take n hashes) q && not (has_blob s space q)) end ∙ ap (λ (l : List IoHash). has_hash l q && not (has_blob s space q)) (take_all (length hashes) hashes (omega arith)));
+      (ap (λ (l : List IoHash). has_hash l q) same ∙ sought q ∙ ap (λ (l : List IoHash). has_hash l q && not (has_blob s space q)) (take_all i hashes end));
 }

@@ -54,6 +54,18 @@ no_room_needed s past Answers answer h = (answer, None, h, (refl, refl))
 no_error : (fault : StoreFault) → (let answer : Result (Unit {0}) StoreFault = Err fault in answer ≡ Ok tt) → ⊥
 no_error fault e = cc
 
+module _ {D A : Type 0} (old : BookView D) (bytes : List ℕ) (Answers : Result A StoreFault → Option Entry → Type 0) (unbroken : broken_by old.steps ≡ None) where
+  -- a command that is refused makes nothing
+  pub refuses : (fault : StoreFault) → IsRefusal fault → Answers (Err fault) None → Gives old bytes old (WithRoom old.cache.index (past_of old.steps) Answers) (Err fault)
+  refuses fault is h = refused old bytes (WithRoom old.cache.index (past_of old.steps) Answers) unbroken fault is (no_room_needed old.cache.index (past_of old.steps) Answers (Err fault) h)
+
+  -- a command that makes nothing
+  pub makes_none : (value : A) → Answers (Ok value) None → Gives old bytes old (WithRoom old.cache.index (past_of old.steps) Answers) (Ok value)
+  makes_none value h = answered old bytes (WithRoom old.cache.index (past_of old.steps) Answers) unbroken value (no_room_needed old.cache.index (past_of old.steps) Answers (Ok value) h)
+
+  pub no_memory : (fault : StoreFault) → fault ≡ NoMemory → Gives old bytes old Answers (Err fault)
+  no_memory fault is = subst (λ (f : StoreFault). Gives old bytes old Answers (Err f)) (sym is) (unbroken, refl)
+
 -- ---- an entry is made
 
 module _ {D A : Type 0} (old : BookView D) (entry : Entry) (value : A) where

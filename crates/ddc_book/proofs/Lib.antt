@@ -10,3 +10,8 @@ pub mod Replaying
 pub mod OpenedBook
 pub mod Loading
 pub mod Creating
+pub mod Uploads
+pub mod Putting
+pub mod Reading
+pub mod Fitting
+pub mod Deleting

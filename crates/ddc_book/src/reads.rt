@@ -1,7 +1,9 @@
 //! The commands that read a store.
 
 ghost use Rattle.std.specs.Prelude.{◌≡◌, ◌⊎◌, Err, IfOk};
+ghost use Rattle.std.specs.List.Sorted.{IsStrictlySortedBy};
 ghost use Rattle.std.specs.Result.{result_map_both};
+ghost use Rattle.ddc_names.specs.Orders.{io_hash_cmp};
 ghost use Rattle.ddc_model.specs.Commands.{fetch};
 ghost use Rattle.ddc_model.specs.History.{unless_broken};
 ghost use Rattle.ddc_model.specs.Reads.{length_at, peek, serve, verify, AreAbsent};
@@ -208,6 +210,14 @@ fn absent(
             found.insert(*hash)?;
         }
     }
+    let list = listed(alloc, &found)?;
+    Ok(list)
+}
+
+fn listed(alloc: Global, found: &BTreeSet<IoHash>) -> Result<Rows<IoHash>, NoMemory>
+    ensures same { IfOk result (λ list. list ≡ found.now.keys) }
+    ensures ordered { IfOk result (λ list. IsStrictlySortedBy io_hash_cmp list) }
+{
     let list = found.iter().copied().collect(alloc)?;
     Ok(Rows::of_vec(list))
 }
