@@ -10,6 +10,7 @@ pub mod Replaying
 pub mod OpenedBook
 pub mod Loading
 pub mod Creating
+pub mod AbsentList
 pub mod Uploads
 pub mod Putting
 pub mod Reading
