@@ -46,11 +46,11 @@ turn_refused told before now left from to close old new risen_from risen_to stor
     inl (false, text, (item, takes, (an_hour told, is_told told, answers (an_hour told))), w.wrote.0)
 turn_refused told before now left from to close old new risen_from risen_to store item text (Err write_faults.NoMemory) answers takes w = (w.wrote, inl refl)
 
-starts_nothing : (input : Option (List ℕ)) → StartsAs input []
+pub starts_nothing : (input : Option (List ℕ)) → StartsAs input []
 starts_nothing None = tt
 starts_nothing (Some bytes) = (bytes, refl)
 
-appends_none : (old : Option (List ℕ)) → Appends old old []
+pub appends_none : (old : Option (List ℕ)) → Appends old old []
 appends_none None = tt
 appends_none (Some text) = sym (append-nil text)
 
