@@ -4,4 +4,11 @@ pub mod Turning
 pub mod Bounds
 pub mod Runs
 pub mod Noting
+pub mod Numbers
 pub mod Statuses
+pub mod Opened
+pub mod Unopened
+pub mod Replaying
+pub mod Spaces
+pub mod Making
+pub mod Finding
