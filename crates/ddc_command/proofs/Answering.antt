@@ -1,8 +1,7 @@
 -- What comes of a request, by what the book's call gives and by how the reply was written.
-use Rattle.std.proofs.Common.{◌≡◌, ◌≢◌, ◌⊎◌, ℕ, ◌≤◌, ◌+◌, List, [], ◌∷◌, ◌++◌, Bool, true, false, Option, Some, None, Result, Ok, Err, refl, sym, ap, ◌∙◌, subst, inl, inr, append-nil}
+use Rattle.std.proofs.Common.{◌≡◌, ◌⊎◌, ℕ, List, [], ◌∷◌, ◌++◌, Bool, true, false, Option, Some, None, Result, Ok, Err, refl, sym, ap, ◌∙◌, subst, inl, inr}
 use Rattle.std.specs.Prelude.{if◌then◌else◌}
 use Rattle.std.specs.FinMap.{get}
-use Rattle.std.specs.Io.KnownBytes.{Keeps, Appends}
 use Rattle.ddc_names.specs.declared.hash.IoHash.{IoHash}
 use Rattle.ddc_names.specs.declared.reference.RefName.{RefName}
 use Rattle.ddc_link.specs.Causes.{Rose}
@@ -23,7 +22,7 @@ use Rattle.ddc_model.specs.Content.{named}
 use Rattle.ddc_model.specs.Sound.{Cache}
 use Rattle.ddc_model.specs.Commands.{changed, found}
 use Rattle.ddc_model.specs.History.{Past, none_yet, past_of_all, past_after, past_of, with_entry, broken_by, unless_broken, broken_or}
-use Rattle.ddc_model.specs.Reads.{serve, served, undamaged}
+use Rattle.ddc_model.specs.Reads.{serve, served}
 use Rattle.ddc_book.specs.declared.reads.Held.{Held}
 use Rattle.ddc_book.specs.declared.reads.Opened.{Opened}
 use Rattle.ddc_book.specs.declared.reads.Opened.TheVariants.{Whole}
@@ -33,7 +32,6 @@ use Rattle.ddc_protocol.specs.Requests.{Item, get_blob}
 use Rattle.ddc_http.specs.declared.reply.WriteFault.{WriteFault}
 use Rattle.ddc_http.specs.declared.reply.WriteFault.TheVariants.{Failed, NoMemory}
 use Rattle.ddc_command.specs.declared.session.Served.TheVariants as ends
-use Rattle.ddc_command.specs.declared.session.Turn.{Turn}
 use Rattle.ddc_command.specs.declared.session.Turn.TheVariants.{Ended}
 use Rattle.ddc_command.specs.Replies.{OpenStore, store_after, past_with, says_damaged, Answers, Changes, fetch_reply}
 use Rattle.ddc_command.specs.Replies as replies
@@ -301,8 +299,8 @@ module _ {D : Type 0} (book next : BookView D) (unbroken : broken_by book.steps 
   whole_gives space hash answer given = elim given [
     | inl e ↦ subst (λ (r : Result Opened StoreFault). Gives book [] next (FetchAs (serve book.cache space hash)) (whole r)) (sym e) (unbroken, same)
     | inr e ↦
-      let is : whole answer ≡ serve book.cache space hash = e ∙ ap (λ (b : Option ℕ). broken_or b (serve book.cache space hash)) unbroken in
-      subst (λ (r : Result (List ℕ) StoreFault). Gives book [] next (FetchAs (serve book.cache space hash)) r) (sym is) (fetch_gives (serve book.cache space hash) (is_of_blobs book.cache space hash))
+        let is : whole answer ≡ serve book.cache space hash = e ∙ ap (λ (b : Option ℕ). broken_or b (serve book.cache space hash)) unbroken in
+        subst (λ (r : Result (List ℕ) StoreFault). Gives book [] next (FetchAs (serve book.cache space hash)) r) (sym is) (fetch_gives (serve book.cache space hash) (is_of_blobs book.cache space hash))
   ]
 
 pub whole_fault : (answer : Result Opened StoreFault) (fault : StoreFault) → whole answer ≡ Err fault → answer ≡ Err fault

@@ -1,8 +1,8 @@
 -- What a crash leaves while a stream is answered.
-use Rattle.std.proofs.Common.{◌≡◌, ◌⊎◌, ℕ, ◌<◌, ◌≤◌, Bool, List, [], ◌∷◌, ◌++◌, length, Option, None, refl, sym, ap, subst, inl, inr, arith}
+use Rattle.std.proofs.Common.{◌≡◌, ◌⊎◌, ℕ, ◌<◌, ◌≤◌, Bool, List, [], ◌∷◌, ◌++◌, Option, None, refl, sym, ap, subst, inl, inr, arith}
 use Rattle.std.specs.Prelude.{IsTrue}
-use Rattle.ddc_disk.specs.Disk.{Timeline, Meaning, IsImage, EachImage, EachSince, Rests}
-use Rattle.ddc_disk.specs.Images.{Images, devices_line}
+use Rattle.ddc_disk.specs.Disk.{Meaning, EachImage, EachSince, Rests}
+use Rattle.ddc_disk.specs.Images.{Images}
 use Rattle.ddc_disk.specs.Since.{started, then_runs}
 use Rattle.ddc_disk.specs.Lending as lending
 use Rattle.ddc_model.specs.declared.rows.Limits.{Limits}
@@ -11,13 +11,13 @@ use Rattle.ddc_model.specs.History.{broken_by}
 use Rattle.ddc_book.specs.Calls.{GoesOn}
 use Rattle.ddc_book.specs.Opening.{Opens}
 use Rattle.ddc_book.specs.View.{BookView, limits_of, line_of, faults_of}
-use Rattle.ddc_protocol.specs.Requests.{Item, most_items}
+use Rattle.ddc_protocol.specs.Requests.{most_items}
 use Rattle.ddc_command.specs.declared.session.Served.{Served}
 use Rattle.ddc_command.specs.declared.session.Served.TheVariants.{Closed, Unread, Cut, Spent, ReadFailed, WriteFailed, DiskFailed, Damaged, NoMemory}
 use Rattle.ddc_command.specs.declared.session.Turn.{Turn}
 use Rattle.ddc_command.specs.declared.session.Turn.TheVariants.{Ended}
 use Rattle.ddc_command.specs.Replies.{OpenStore, closes}
-use Rattle.ddc_command.specs.Session.{store_of, TurnAs, Answered, OpensWithin, OneChange, Stops}
+use Rattle.ddc_command.specs.Session.{store_of, TurnAs, OpensWithin, Stops}
 use Rattle.ddc_command.proofs.Changing.{leaves, changes_something}
 use Rattle.ddc_command.proofs.Turning.{starts_nothing}
 use Rattle.ddc_command.proofs.Runs.{SoFar, so_far_answered, then_answered, one_change}
@@ -54,12 +54,12 @@ module _ {D : Type 0} (meaning : D → Meaning) (told : Option ℕ) (input : Opt
     within_new turn taken im opens = elim (leaves told ahead now left from to close mid new (store_of book) (store_of next) turn taken) [
       | inl same ↦ within_old im (subst (λ (c : Cache). Opens (limits_of book) im c) (ap (λ (o : OpenStore). o.cache) same) opens)
       | inr (item, text, takes, answers) ↦ record {
-          items = s.items ++ item ∷ [];
-          text = s.text ++ text;
-          state = store_of next;
-          answered = then_answered told input ahead now left old mid new (store_of first) (store_of book) (store_of next) count from to close few last s item takes text answers;
-          opens = opens_first im next.cache opens;
-        }
+        items = s.items ++ item ∷ [];
+        text = s.text ++ text;
+        state = store_of next;
+        answered = then_answered told input ahead now left old mid new (store_of first) (store_of book) (store_of next) count from to close few last s item takes text answers;
+        opens = opens_first im next.cache opens;
+      }
     ]
 
     pub crash_more : (turn : Turn) → TurnAs told ahead now left from to close mid new (store_of book) (store_of next) turn → IsTrue tells
@@ -67,15 +67,15 @@ module _ {D : Type 0} (meaning : D → Meaning) (told : Option ℕ) (input : Opt
     crash_more turn taken tells so_far = elim devices [
       | inl same ↦ subst (λ (b : BookView D). EachSince (line_of meaning first) (line_of meaning b) Within) (sym same) so_far
       | inr goes ↦
-        then_runs (line_of meaning first) (line_of meaning book) (line_of meaning next) Within (λ im. Opens (limits_of book) im book.cache ⊎ Opens (limits_of book) im next.cache) so_far (goes.crash tells unbroken)
-        (λ im either. elim either [ | inl opens ↦ within_old im opens | inr opens ↦ within_new turn taken im opens ])
+          then_runs (line_of meaning first) (line_of meaning book) (line_of meaning next) Within (λ im. Opens (limits_of book) im book.cache ⊎ Opens (limits_of book) im next.cache) so_far (goes.crash tells unbroken)
+          (λ im either. elim either [ inl opens ↦ within_old im opens | inr opens ↦ within_new turn taken im opens ])
     ]
 
     -- where the disks failed
     either_now : IsTrue tells → GoesOn tells meaning book next → EachImage (line_of meaning next) (λ im. Opens (limits_of first) im book.cache ⊎ Opens (limits_of first) im next.cache)
     either_now tells goes im left_now =
         let run = goes.crash tells unbroken in
-        elim (run.each (line_of meaning next).moment im run.later left_now) [ | inl opens ↦ inl (opens_first im book.cache opens) | inr opens ↦ inr (opens_first im next.cache opens) ]
+        elim (run.each (line_of meaning next).moment im run.later left_now) [ inl opens ↦ inl (opens_first im book.cache opens) | inr opens ↦ inr (opens_first im next.cache opens) ]
 
     pub stops : (served : Served) → TurnAs told ahead now left from to close mid new (store_of book) (store_of next) (Ended served) → IsTrue tells → Stops told input (line_of meaning next) (limits_of first) (store_of first) (store_of next) served
     stops Closed taken tells = tt
@@ -96,4 +96,4 @@ module _ {D : Type 0} (meaning : D → Meaning) (told : Option ℕ) (input : Opt
     stops NoMemory taken tells = tt
 
     pub later_faults : faults_of meaning book ≤ faults_of meaning next
-    later_faults = elim devices [ | inl same ↦ subst (λ (b : BookView D). faults_of meaning book ≤ faults_of meaning b) (sym same) (omega arith) | inr goes ↦ goes.later ]
+    later_faults = elim devices [ inl same ↦ subst (λ (b : BookView D). faults_of meaning book ≤ faults_of meaning b) (sym same) (omega arith) | inr goes ↦ goes.later ]

@@ -3,5 +3,7 @@ pub mod Answering
 pub mod Turning
 pub mod Bounds
 pub mod Runs
+pub mod Changing
+pub mod Crashes
 pub mod Noting
 pub mod Statuses

@@ -1,5 +1,5 @@
 -- A run of turns, and how each end of it follows.
-use Rattle.std.proofs.Common.{◌≡◌, ℕ, ◌≤◌, ◌<◌, ◌+◌, ◌*◌, Bool, true, false, List, [], ◌∷◌, ◌++◌, length, refl, sym, ap, ◌∙◌, subst, append_assoc, append-nil, arith, Option, Some, None, IfSome, inl, inr, length-append, ◌-◌}
+use Rattle.std.proofs.Common.{◌≡◌, ℕ, ◌≤◌, ◌<◌, ◌+◌, ◌*◌, Bool, true, false, List, [], ◌∷◌, ◌++◌, length, refl, sym, ap, ◌∙◌, subst, append_assoc, append-nil, arith, Option, Some, None, IfSome, inl, inr, length-append}
 use Rattle.std.specs.Io.KnownBytes.{Keeps, Appends, Consumes, prepend_known}
 use Rattle.std.proofs.KnownBytes.{Appends-trans, Appends-kept, Consumes-trans}
 use Rattle.ddc_protocol.specs.Requests.{Item, Begins, Spells, EndsAs, IsUnread, IsCut, End, closed, cut, unread, spent, most_items}

@@ -1,5 +1,5 @@
 -- What one turn does, by what its parts do.
-use Rattle.std.proofs.Common.{◌≡◌, ℕ, ◌≤◌, List, [], Bool, false, Option, Some, None, Result, Ok, Err, refl, sym, append-nil, inl, inr, arith}
+use Rattle.std.proofs.Common.{ℕ, List, [], Bool, false, Option, Some, None, Result, Ok, Err, refl, sym, append-nil, inl, inr, arith}
 use Rattle.std.specs.Io.KnownBytes.{Appends}
 use Rattle.ddc_protocol.specs.Requests.{Item}
 use Rattle.ddc_http.specs.Reader.{Takes}

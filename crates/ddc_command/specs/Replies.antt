@@ -5,7 +5,7 @@ use Rattle.ddc_model.specs.declared.entry.Entry.{Entry}
 use Rattle.ddc_model.specs.declared.fault.StoreFault.{StoreFault}
 use Rattle.ddc_model.specs.declared.fault.StoreFault.TheVariants.{Broken, UnknownSpace, NotFound, NotFinalised, NotPending, Full, HistoryFull, NoMemory, DiskFailed, Damaged}
 use Rattle.ddc_model.specs.Limits.{most_bytes}
-use Rattle.ddc_model.specs.Content.{Content, named}
+use Rattle.ddc_model.specs.Content.{named}
 use Rattle.ddc_model.specs.Sound.{Cache}
 use Rattle.ddc_model.specs.Commands.{UploadAs, PutAs, FinaliseAs, changed}
 use Rattle.ddc_model.specs.History.{Past, none_yet, with_entry, WithRoom}

@@ -1,4 +1,4 @@
-use Rattle.std.proofs.Common.{◌≡◌, [], ◌∙◌, sym, subst, refl, inl}
+use Rattle.std.proofs.Common.{[], ◌∙◌, sym, subst, refl, inl}
 use Rattle.ddc_model.specs.declared.fault.StoreFault.TheVariants.{NoMemory}
 use Rattle.ddc_model.specs.Reads.{serve}
 use Rattle.ddc_book.specs.Calls.{whole}
@@ -13,7 +13,7 @@ use Rattle.ddc_command.proofs.reply.answer_fetch.Goals as goal
 pub returns : goal.returns
 returns g c = record {
   gives = λ hour.
-    let P : Turn → Type 0 = λ turn. AnswersAs g.D.Disk.tells g.D.Disk.meaning (g.W.Sink.written c.args.sink.now) (g.W.Sink.written c.write_opened-written.new.sink) (g.W.Sink.faults c.args.sink.now) (g.W.Sink.faults c.write_opened-written.new.sink) c.args.close hour c.args.book.now (get_blob c.args.space.now c.args.hash) c.open_blob-answer.new.self turn in
+      let P : Turn → Type 0 = λ turn. AnswersAs g.D.Disk.tells g.D.Disk.meaning (g.W.Sink.written c.args.sink.now) (g.W.Sink.written c.write_opened-written.new.sink) (g.W.Sink.faults c.args.sink.now) (g.W.Sink.faults c.write_opened-written.new.sink) c.args.close hour c.args.book.now (get_blob c.args.space.now c.args.hash) c.open_blob-answer.new.self turn in
       subst P (whole_turn c.open_blob-answer.result c.write_opened-written.result ∙ sym c.turn_of.ensures) (answers g.D.Disk.tells g.D.Disk.meaning (g.W.Sink.written c.args.sink.now) (g.W.Sink.written c.write_opened-written.new.sink) (g.W.Sink.faults c.args.sink.now) (g.W.Sink.faults c.write_opened-written.new.sink) c.args.close hour c.args.book.now c.open_blob-answer.new.self c.requires.unbroken (inl c.open_blob-answer.ensures.same)
       (get_blob c.args.space.now c.args.hash) [] (FetchAs (serve c.args.book.now.cache c.args.space.now c.args.hash)) (fetch_reply c.args.hash c.args.close)
       (fetch_answers c.args.close hour (store_of c.args.book.now) c.args.space.now c.args.hash) (fetch_changes c.args.close hour (store_of c.args.book.now) c.args.space.now c.args.hash) (whole c.open_blob-answer.result) c.write_opened-written.result refl

@@ -1,6 +1,4 @@
-use Rattle.std.proofs.Common.{◌≡◌, [], Result, ◌∙◌, sym, subst, refl, inr}
-use Rattle.ddc_names.specs.declared.hash.IoHash.{IoHash}
-use Rattle.ddc_model.specs.declared.entry.Entry.{Entry}
+use Rattle.std.proofs.Common.{[], ◌∙◌, sym, subst, refl, inr}
 use Rattle.ddc_model.specs.declared.fault.StoreFault.TheVariants.{DiskFailed, NoMemory}
 use Rattle.ddc_model.specs.History.{past_of}
 use Rattle.ddc_model.specs.Reads.{HeldAs}

@@ -1,4 +1,4 @@
-use Rattle.std.proofs.Common.{◌≡◌, ℕ, List, Option, ap, subst, rules}
+use Rattle.std.proofs.Common.{◌≡◌, ℕ, List, Option, subst, rules}
 use Rattle.ddc_book.specs.View.{limits_of, line_of}
 use Rattle.ddc_http.specs.Stream.{source_of}
 use Rattle.ddc_command.specs.Session.{store_of, Serves, Stops}

@@ -54,15 +54,15 @@ requests-preserved g c =
     c.requests.book c.take_turn.new.book c.requests.count (place_of c.requests.reader) (place_of c.take_turn.new.reader) (closes c.requests.count) (omega arith) refl c.requests.invariant.so_far c.take_turn.ensures.devices c.requests.invariant.unbroken c.requests.invariant.limits in
     record {
       so_far = extends (g.C.Clock.tells c.args.clock.now) (g.S.Source.left (source_of c.args.reader.now)) (prepend_known (held_of c.requests.reader) (g.S.Source.left (source_of c.requests.reader)))
-    (prepend_known (held_of c.take_turn.new.reader) (g.S.Source.left (source_of c.take_turn.new.reader))) (g.S.Source.left (source_of c.take_turn.new.reader))
-    (g.W.Sink.written c.args.sink.now) (g.W.Sink.written c.requests.sink) (g.W.Sink.written c.take_turn.new.sink)
-    (store_of c.args.book.now) (store_of c.requests.book) (store_of c.take_turn.new.book) c.requests.count (place_of c.requests.reader) (place_of c.take_turn.new.reader) (closes c.requests.count) (omega arith) refl c.requests.invariant.so_far
+          (prepend_known (held_of c.take_turn.new.reader) (g.S.Source.left (source_of c.take_turn.new.reader))) (g.S.Source.left (source_of c.take_turn.new.reader))
+          (g.W.Sink.written c.args.sink.now) (g.W.Sink.written c.requests.sink) (g.W.Sink.written c.take_turn.new.sink)
+          (store_of c.args.book.now) (store_of c.requests.book) (store_of c.take_turn.new.book) c.requests.count (place_of c.requests.reader) (place_of c.take_turn.new.reader) (closes c.requests.count) (omega arith) refl c.requests.invariant.so_far
           c.in-Answered.ensures.gives;
       crash = λ tells opens.
           crash_more g.D.Disk.meaning (g.C.Clock.tells c.args.clock.now) (g.S.Source.left (source_of c.args.reader.now)) c.args.book.now g.D.Disk.tells (prepend_known (held_of c.requests.reader) (g.S.Source.left (source_of c.requests.reader)))
-    (prepend_known (held_of c.take_turn.new.reader) (g.S.Source.left (source_of c.take_turn.new.reader))) (g.S.Source.left (source_of c.take_turn.new.reader))
-    (g.W.Sink.written c.args.sink.now) (g.W.Sink.written c.requests.sink) (g.W.Sink.written c.take_turn.new.sink)
-    c.requests.book c.take_turn.new.book c.requests.count (place_of c.requests.reader) (place_of c.take_turn.new.reader) (closes c.requests.count) (omega arith) refl c.requests.invariant.so_far c.take_turn.ensures.devices c.requests.invariant.unbroken c.requests.invariant.limits
+          (prepend_known (held_of c.take_turn.new.reader) (g.S.Source.left (source_of c.take_turn.new.reader))) (g.S.Source.left (source_of c.take_turn.new.reader))
+          (g.W.Sink.written c.args.sink.now) (g.W.Sink.written c.requests.sink) (g.W.Sink.written c.take_turn.new.sink)
+          c.requests.book c.take_turn.new.book c.requests.count (place_of c.requests.reader) (place_of c.take_turn.new.reader) (closes c.requests.count) (omega arith) refl c.requests.invariant.so_far c.take_turn.ensures.devices c.requests.invariant.unbroken c.requests.invariant.limits
           Answered c.in-Answered.ensures.gives tells (c.requests.invariant.crash tells opens);
       goes_on = c.in-Answered.ensures.goes_on refl;
       unbroken = c.in-Answered.ensures.unbroken (λ e. cc);

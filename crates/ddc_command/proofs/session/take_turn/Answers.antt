@@ -1,4 +1,4 @@
-use Rattle.std.proofs.Common.{◌≡◌, ℕ, Option, Ok, Err, refl, sym, subst}
+use Rattle.std.proofs.Common.{Option, Ok, Err, refl, sym, subst}
 use Rattle.std.specs.Io.KnownBytes.{prepend_known}
 use Rattle.ddc_http.specs.Stream.{source_of, held_of, place_of}
 use Rattle.ddc_http.specs.Reader.{asked, Answers}
