@@ -3,6 +3,8 @@ pub mod Answering
 pub mod Turning
 pub mod Bounds
 pub mod Runs
+pub mod Changing
+pub mod Crashes
 pub mod Noting
 pub mod Numbers
 pub mod Statuses
