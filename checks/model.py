@@ -1,4 +1,5 @@
-"""A plain model of `ddc replay`: each definition of docs/DEFINITIONS.md, computed on small inputs by the simplest means.
+"""A plain model of `ddc init` and `ddc replay`: each definition of docs/DEFINITIONS.md, computed on small inputs by the
+simplest means.
 
 Nothing here is taken from the program: the hash follows the BLAKE3 specification's recursion, objects follow
 CompactBinary.h, heads the grammar of RFC 9112 as httparse reads it, and the store is lists and dictionaries.
@@ -339,9 +340,120 @@ def cut(data):
     return items, at, 'spent'
 
 
+# ---- entries and the journal
+
+def four(number):
+    return number.to_bytes(4, 'little')
+
+
+def eight(number):
+    return number.to_bytes(8, 'little')
+
+
+def spelled_text(text):
+    return bytes([len(text)]) + text
+
+
+def spelled_name(name):
+    return spelled_text(name[0]) + spelled_text(name[1]) + name[2]
+
+
+def spelled_blob(data):
+    links = b''.join((b'\x00' if is_object else b'\x01') + named for is_object, named in links_of(data))
+    return io_hash(data) + eight(len(data)) + eight(0) + four(len(links) // 21) + links
+
+
+class NoEntry(Exception):
+    pass
+
+
+class Reader:
+    """Takes the fields of an entry from the front of a body."""
+
+    def __init__(self, data):
+        self.data, self.at = data, 0
+
+    def take(self, count):
+        if count > len(self.data) - self.at:
+            raise NoEntry
+        self.at += count
+        return self.data[self.at - count:self.at]
+
+    def number(self, width):
+        return int.from_bytes(self.take(width), 'little')
+
+    def text(self):
+        text = self.take(self.number(1))
+        if not is_name(text):
+            raise NoEntry
+        return text
+
+    def name(self):
+        return self.text(), self.text(), self.take(20)
+
+    def flag(self):
+        flag = self.number(1)
+        if flag > 1:
+            raise NoEntry
+        return flag
+
+    def blob(self):
+        named, length, _start, count = self.take(20), self.number(8), self.number(8), self.number(4)
+        if count > len(self.data):
+            raise NoEntry
+        return named, length, [(self.flag() == 0, self.take(20)) for _ in range(count)]
+
+    def entry(self):
+        """The entry at the front, as its kind and its fields."""
+        kind = self.number(1)
+        if kind == 1:
+            return 'space', self.text(), self.number(4), self.number(4)
+        if kind == 2:
+            return 'upload', self.text(), self.blob(), self.number(4)
+        if kind == 3:
+            return 'repin', self.text(), self.take(20), self.number(4)
+        if kind == 4:
+            return 'put', self.name(), self.take(20), self.blob() if self.flag() else None, self.flag(), self.number(4)
+        if kind == 5:
+            return 'finalise', self.name(), self.take(20), self.number(4)
+        if kind == 6:
+            return 'delete', self.name(), self.number(4)
+        if kind == 7:
+            return 'touch', self.name(), self.number(4)
+        raise NoEntry
+
+
+HEADER = b'DDCJLOG\n' + four(0) + eight(1)
+
+
+class Unopened(Exception):
+    """Why a file is no store, in the words of the note."""
+
+
+def item_bodies(data):
+    """The bodies of a journal file with the places of their gates."""
+    if data[20:21] != b'\x01' or data[12:20] == bytes(8):
+        raise Unopened('not made')
+    if data[:8] != HEADER[:8]:
+        raise Unopened('corrupt file 0 at 0')
+    if data[8:12] != four(0):
+        raise Unopened('version %d' % int.from_bytes(data[8:12], 'little'))
+    if len(data) < 22:
+        raise Unopened('corrupt file 0 at 20')
+    at, bodies = 21, []
+    while data[at] == 1:
+        end = at + 5 + int.from_bytes(data[at + 1:at + 5], 'little')
+        if len(data) < at + 5 or len(data) <= end:
+            raise Unopened('corrupt file 0 at %d' % at)
+        bodies.append((at, data[at + 5:end]))
+        at = end
+    return bodies
+
+
 # ---- the store
 
-MOST = {'blobs': 2097152, 'refs': 1048576, 'links': 16777216}
+MOST = {'spaces': 64, 'blobs': 2097152, 'refs': 1048576, 'links': 16777216}
+MOST_BYTES, MOST_LINKS = 67108864, 4194304
 
 
 class Refused(Exception):
@@ -349,18 +461,39 @@ class Refused(Exception):
         self.status, self.body = status, body
 
 
+class Blob:
+    def __init__(self, data, links, at):
+        self.data, self.links, self.at = data, links, at
+
+
+class Slot:
+    def __init__(self, done, pending, seen):
+        self.done, self.pending, self.seen = done, pending, seen
+
+
 class Store:
-    """Namespaces, blobs by namespace and hash, and references with their finalised and pending objects."""
+    """Namespaces, blobs by namespace and hash, references with their finalised and pending objects, and the bodies of the
+    journal that leads here."""
 
     def __init__(self):
-        self.spaces, self.blobs, self.slots = {b'game'}, {}, {}
+        self.spaces, self.blobs, self.slots, self.hour, self.bodies = {}, {}, {}, 0, []
+
+    def file(self):
+        return HEADER + b'\x01' + b''.join(b'\x01' + four(len(body)) + body for body in self.bodies) + b'\x00'
+
+    def made(self, body):
+        self.bodies.append(body)
+
+    def raise_hour(self, hour):
+        self.hour = max(self.hour, hour)
+        return self.hour
 
     def in_space(self, space):
         if space not in self.spaces:
             raise Refused(404, error='unknown_namespace')
 
     def room(self, key, data, name=None):
-        links = sum(len(links_of(blob)) for blob in self.blobs.values())
+        links = sum(len(blob.links) for blob in self.blobs.values())
         counts = [('blobs', len(self.blobs), 0 if key in self.blobs else 1),
                   ('refs', len(self.slots), 1 if name is not None and name not in self.slots else 0),
                   ('links', links, 0 if key in self.blobs else len(links_of(data)))]
@@ -376,63 +509,161 @@ class Store:
             if node in seen:
                 continue
             seen.add(node)
-            data = self.blobs.get((space, node[1]))
-            if data is None:
+            blob = self.blobs.get((space, node[1]))
+            if blob is None:
                 missing.add(node[1])
             elif node[0]:
-                reached += links_of(data)
+                reached += blob.links
         return sorted(missing)
 
-    def put_blob(self, space, data):
+    def set_space(self, space, ttl, pin):
+        self.spaces[space] = ttl, pin
+        self.made(b'\x01' + spelled_text(space) + four(ttl) + four(pin))
+
+    def put_blob(self, hour, space, data):
         self.in_space(space)
-        key = space, io_hash(data)
+        key, hour = (space, io_hash(data)), max(hour, self.hour)
         self.room(key, data)
-        self.blobs.setdefault(key, data)
+        if key not in self.blobs:
+            self.blobs[key] = Blob(data, links_of(data), self.raise_hour(hour))
+            self.made(b'\x02' + spelled_text(space) + spelled_blob(data) + four(hour) + data)
+        elif self.blobs[key].at < hour:
+            self.blobs[key].at = self.raise_hour(hour)
+            self.made(b'\x03' + spelled_text(space) + key[1] + four(hour))
         return key[1]
 
-    def get_blob(self, space, named):
+    def get_blob(self, hour, space, named):
         self.in_space(space)
         if (space, named) not in self.blobs:
             raise Refused(404, error='not_found')
-        return self.blobs[space, named]
+        return self.served(space, named)
 
-    def put_ref(self, name, data):
+    def served(self, space, named):
+        data = self.blobs[space, named].data
+        if io_hash(data) != named:
+            raise Refused(500, error='damaged', found=io_hash(data).hex(), named=named.hex())
+        return data
+
+    def put_ref(self, hour, name, data):
         self.in_space(name[0])
-        root = io_hash(data)
-        self.room((name[0], root), data, name)
-        self.blobs.setdefault((name[0], root), data)
+        root, hour = io_hash(data), max(hour, self.hour)
+        key = name[0], root
+        self.room(key, data, name)
+        fresh = b'\x00' if key in self.blobs else b'\x01' + spelled_blob(data)
+        if key in self.blobs:
+            self.blobs[key].at = max(self.blobs[key].at, hour)
+        else:
+            self.blobs[key] = Blob(data, links_of(data), hour)
         missing = self.needs(name[0], root)
-        done = self.slots.get(name, (None, None))[0]
-        self.slots[name] = (done, root) if missing else (root, None)
+        done = self.slots[name].done if name in self.slots else None
+        self.slots[name] = Slot(done, root, hour) if missing else Slot(root, None, hour)
+        self.made(b'\x04' + spelled_name(name) + root + fresh + (b'\x00' if missing else b'\x01') + four(self.raise_hour(hour)) + (data if fresh[0] else b''))
         return missing
 
-    def finalise(self, name, named):
+    def slot(self, name):
         self.in_space(name[0])
         if name not in self.slots:
             raise Refused(404, error='not_found')
-        done, pending = self.slots[name]
-        if done == named:
+        return self.slots[name]
+
+    def finalise(self, hour, name, named):
+        slot = self.slot(name)
+        if slot.done == named:
             return []
-        if pending != named:
+        if slot.pending != named:
             raise Refused(409, error='not_pending')
         missing = self.needs(name[0], named)
         if not missing:
-            self.slots[name] = named, None
+            hour = self.raise_hour(hour)
+            self.slots[name] = Slot(named, None, hour)
+            self.made(b'\x05' + spelled_name(name) + named + four(hour))
         return missing
 
-    def get_ref(self, name):
-        self.in_space(name[0])
-        if name not in self.slots:
-            raise Refused(404, error='not_found')
-        done = self.slots[name][0]
-        if done is None:
+    def get_ref(self, hour, name):
+        slot = self.slot(name)
+        if slot.done is None:
             raise Refused(404, error='not_finalised')
-        return done, self.blobs[name[0], done]
+        data = self.served(name[0], slot.done)
+        if slot.seen < max(hour, self.hour):
+            slot.seen = self.raise_hour(hour)
+            self.made(b'\x07' + spelled_name(name) + four(slot.seen))
+        return slot.done, data
+
+    # ---- what a journal leads to
+
+    def fresh(self, space, blob, data, hour):
+        named, length, links = blob
+        if (space, named) in self.blobs or length > MOST_BYTES or len(links) > MOST_LINKS:
+            raise NoEntry
+        self.blobs[space, named] = Blob(data, links, hour)
+
+    def follow(self, body):
+        """Makes the change of a body; raises NoEntry where it is none that is legal."""
+        reader = Reader(body)
+        kind, *fields = reader.entry()
+        data = body[reader.at:]
+        blob = fields[1] if kind == 'upload' else fields[2] if kind == 'put' else None
+        if len(data) != (blob[1] if blob else 0):
+            raise NoEntry
+        where = fields[0] if kind in ('space', 'upload', 'repin') else fields[0][0]
+        if kind != 'space' and where not in self.spaces:
+            raise NoEntry
+        hour = fields[-1]
+        if kind == 'space':
+            if not 1 <= fields[1] <= 1000000 or not 1 <= fields[2] <= 1000000:
+                raise NoEntry
+            self.spaces[where], hour = tuple(fields[1:]), 0
+        elif kind == 'upload':
+            self.fresh(where, blob, data, hour)
+        elif kind == 'repin':
+            if (where, fields[1]) not in self.blobs:
+                raise NoEntry
+            self.blobs[where, fields[1]].at = max(self.blobs[where, fields[1]].at, hour)
+        elif kind == 'put':
+            name, root, _, whole, _ = fields
+            if blob:
+                if blob[0] != root:
+                    raise NoEntry
+                self.fresh(where, blob, data, hour)
+            elif (where, root) not in self.blobs:
+                raise NoEntry
+            else:
+                self.blobs[where, root].at = max(self.blobs[where, root].at, hour)
+            done = self.slots[name].done if name in self.slots else None
+            self.slots[name] = Slot(root, None, hour) if whole else Slot(done, root, hour)
+        elif kind == 'finalise':
+            if fields[0] not in self.slots or self.slots[fields[0]].pending != fields[1]:
+                raise NoEntry
+            self.slots[fields[0]] = Slot(fields[1], None, hour)
+        elif kind == 'delete':
+            if self.slots.pop(fields[0], None) is None:
+                raise NoEntry
+        else:
+            if fields[0] not in self.slots or self.slots[fields[0]].done is None:
+                raise NoEntry
+            self.slots[fields[0]].seen = hour
+        self.raise_hour(hour)
+        self.made(body)
+
+
+def opened(data):
+    """The store that a file holds; raises Unopened."""
+    store = Store()
+    for at, body in item_bodies(data):
+        try:
+            store.follow(body)
+        except NoEntry:
+            raise Unopened('corrupt file 0 at %d' % at) from None
+    for name in sorted(store.slots):
+        done = store.slots[name].done
+        if done is not None and store.needs(name[0], done):
+            raise Unopened('unsound %s/%s/%s' % (name[0].decode(), name[1].decode(), name[2].hex()))
+    return store
 
 
 # ---- replies
 
-PHRASES = {200: 'OK', 400: 'Bad Request', 404: 'Not Found', 409: 'Conflict', 507: 'Insufficient Storage'}
+PHRASES = {200: 'OK', 400: 'Bad Request', 404: 'Not Found', 409: 'Conflict', 500: 'Internal Server Error', 507: 'Insufficient Storage'}
 
 
 def reply(status, kind, body, close, named=None):
@@ -454,35 +685,63 @@ def json_reply(status, close, **body):
     return reply(status, 'application/json', ('{' + pairs + '}').encode(), close)
 
 
-def answer(store, item, close):
+def answer(store, hour, item, close):
     kind, rest = item[0], item[1:]
     try:
         if kind == 'put_blob':
-            return json_reply(200, close, identifier=store.put_blob(*rest).hex())
+            return json_reply(200, close, identifier=store.put_blob(hour, *rest).hex())
         if kind == 'get_blob':
-            return reply(200, 'application/octet-stream', store.get_blob(*rest), close, rest[1])
+            return reply(200, 'application/octet-stream', store.get_blob(hour, *rest), close, rest[1])
         if kind == 'put_ref':
-            return json_reply(200, close, needs=[need.hex() for need in store.put_ref(*rest)])
+            return json_reply(200, close, needs=[need.hex() for need in store.put_ref(hour, *rest)])
         if kind == 'finalise':
-            return json_reply(200, close, needs=[need.hex() for need in store.finalise(*rest)])
+            return json_reply(200, close, needs=[need.hex() for need in store.finalise(hour, *rest)])
         if kind == 'get_ref':
-            done, data = store.get_ref(*rest)
+            done, data = store.get_ref(hour, *rest)
             return reply(200, 'application/x-ue-cb', data, close, done)
     except Refused as refused:
+        if refused.status == 500:
+            raise
         return json_reply(refused.status, close, **refused.body)
     if kind == 'mismatch':
         return json_reply(400, close, error='hash_mismatch', found=rest[1].hex(), named=rest[0].hex())
     return json_reply(400, close, at=rest[0], error='not_an_object')
 
 
-# ---- the run
+# ---- the runs: what is written, the exit status and the note, and what the file `journal-a` holds behind it
 
-def run(data):
-    """What `ddc replay DIR` writes for an input, its exit status, and its note."""
-    store = Store()
-    items, at, end = cut(data)
-    text = b''.join(answer(store, item, count == 9999) for count, item in enumerate(items))
+def no_store(data, fault):
+    return b'', 2, ('ddc: cannot open store: %s\n' % fault).encode(), data
+
+
+def init(data, space, ttl, pin):
+    """`ddc init DIR NS TTL PIN` where the file holds these bytes."""
+    try:
+        store = opened(data)
+    except Unopened as fault:
+        if str(fault) != 'not made':
+            return no_store(data, fault)
+        store = Store()
+    if space not in store.spaces and len(store.spaces) == MOST['spaces']:
+        return b'', 8, b'ddc: refused: full\n', store.file()
+    store.set_space(space, ttl, pin)
+    return b'namespace %s ttl %d pin %d\n' % (space, ttl, pin), 0, b'', store.file()
+
+
+def replay(data, hour, stream):
+    """`ddc replay DIR` for an input at an hour."""
+    try:
+        store = opened(data)
+    except Unopened as fault:
+        return no_store(data, fault)
+    items, at, end = cut(stream)
+    text = b''
+    for count, item in enumerate(items):
+        try:
+            text += answer(store, hour, item, count == 9999)
+        except Refused as damaged:
+            return text + json_reply(500, True, **damaged.body), 7, b'ddc: damaged blobs 1\n', store.file()
     if end == 'unread':
         text += json_reply(400, True, error='unread')
     code = {'closed': None, 'cut': 'cut', 'unread': 'unread', 'spent': 'too_many_requests'}[end]
-    return text, 3 if code else 0, ('ddc: bad input at %d: %s\n' % (at, code) if code else '').encode()
+    return text, 3 if code else 0, ('ddc: bad input at %d: %s\n' % (at, code) if code else '').encode(), store.file()

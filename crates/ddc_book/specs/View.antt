@@ -1,7 +1,7 @@
 -- A book as its callers see it, and what its type keeps.
-use Rattle.std.specs.Prelude.{◌≡◌, ℕ, ◌≤◌, Bool, IsTrue, List, [], ◌∷◌, ◌++◌, length, take, None, IfSome}
+use Rattle.std.specs.Prelude.{◌≡◌, ℕ, ◌≤◌, Bool, IsTrue, List, [], ◌∷◌, ◌++◌, length, take, None, IfSome, refl}
 use Rattle.std.specs.FinMap.{FinMap, code}
-use Rattle.std.specs.Coded.{Coded}
+use Rattle.std.specs.Coded.{Coded, code_by, coded×, coded_ℕ, coded_list}
 use Rattle.ddc_names.specs.Orders.{coded_name}
 use Rattle.ddc_disk.specs.Disk.{Timeline, Meaning}
 use Rattle.ddc_disk.specs.Images.{Images, devices_line, devices_faults}
@@ -10,11 +10,15 @@ use Rattle.ddc_journal.specs.Journal.{IsReady}
 use Rattle.ddc_model.specs.declared.rows.Limits.{Limits}
 use Rattle.ddc_model.specs.declared.entry.Step.{Step}
 use Rattle.ddc_model.specs.declared.entry.Step.TheVariants.{Loaded}
+use Rattle.ddc_model.specs.contracts.entry.Step as step
 use Rattle.ddc_model.specs.Keys.{blob_cmp, coded_blob_name}
-use Rattle.ddc_model.specs.State.{State, empty_state}
+use Rattle.ddc_model.specs.State.{State, coded_state, empty_state}
 use Rattle.ddc_model.specs.Sound.{Cache, empty_cache, HasBytes, AreWhole, IsSound}
 use Rattle.ddc_model.specs.History.{after_steps, broken_by, AreLawful}
 use Rattle.ddc_book.specs.Opening.{Leads, Opens}
+
+abbrev coded_step : Coded Step
+coded_step = step.the_row.coded
 
 -- the bytes of each blob
 abbrev pub coded_bytes : Coded (FinMap blob_cmp (List ℕ))
@@ -26,6 +30,14 @@ pub record BookView (D : Type 0) : Type 0 where
   pub cache : Cache
   pub steps : List Step
   pub opened : ℕ
+
+-- it is stored as the tuple of its parts
+abbrev pub coded_book : {D : Type 0} → Coded D → Coded (BookView D)
+coded_book {D} device = code_by ((D × (D × D)) × ((State × FinMap blob_cmp (List ℕ)) × (List Step × ℕ)))
+    (coded× (coded× device (coded× device device)) (coded× (coded× coded_state coded_bytes) (coded× (coded_list coded_step) coded_ℕ)))
+    (λ book. ((book.devices.first, (book.devices.second, book.devices.blobs)), ((book.cache.index, book.cache.bytes), (book.steps, book.opened))))
+    (λ p. record { devices = record { first = p.0.0; second = p.0.1.0; blobs = p.0.1.1 }; cache = record { index = p.1.0.0; bytes = p.1.0.1 }; steps = p.1.1.0; opened = p.1.1.1 })
+    (λ _. refl)
 
 abbrev pub limits_of : {D : Type 0} → BookView D → Limits
 limits_of book = book.cache.index.limits
@@ -70,6 +82,10 @@ pub record OpensSome (limits : Limits) (steps : List Step) (im : Images) : Type 
   pub opens : Opens limits im state
   pub index : state.index ≡ after_steps (empty_state limits) (take n steps)
   pub sound : IsSound state
+
+-- from a moment on, each image has P
+abbrev pub EachFrom : {I : Type 0} → Timeline I → ℕ → (I → Type 0) → Type 0
+EachFrom {I} line from P = (t : ℕ) (image : I) → from ≤ t → line.left t image → P image
 
 pub record IsBook {D : Type 0} (tells : Bool) (meaning : D → Meaning) (book : BookView D) (end : ℕ) : Type 0 where
   pub history : IsHistory (limits_of book) book.steps book.cache.index (faults_of meaning book)

@@ -1,19 +1,23 @@
 //! The commands that change a store.
 
-ghost use Rattle.std.specs.Prelude.{◌≡◌, ◌≤◌, true, [], length, Err};
+ghost use Rattle.std.specs.Prelude.{◌≡◌, ◌≤◌, true, false, [], length, None, Some, Err, Ok, is_some, option_map, IfOk};
 ghost use Rattle.ddc_disk.specs.Causes.{Rose};
+ghost use Rattle.ddc_model.specs.declared.entry.Entry.TheVariants.{Put};
 ghost use Rattle.ddc_model.specs.Limits.{most_bytes};
+ghost use Rattle.ddc_model.specs.State.{blob_at, has_space};
 ghost use Rattle.ddc_model.specs.Entries.{is_time};
-ghost use Rattle.ddc_model.specs.Commands.{SpaceAs, UploadAs, PutAs, FinaliseAs};
+ghost use Rattle.ddc_model.specs.Content.{IsContent, named};
+ghost use Rattle.ddc_model.specs.Commands.{hour_of, is_done, is_empty, stored, SpaceAs, UploadAs, PutAs, FinaliseAs};
 ghost use Rattle.ddc_model.specs.History.{past_of, WithRoom};
 ghost use Rattle.ddc_model.specs.Reads.{DeleteAs, HeldAs};
 ghost use Rattle.ddc_book.specs.Calls.{Gives, GoesOn, got};
+ghost use Rattle.ddc_book.specs.Making.{touch_with_room, Serves};
 ghost use Rattle.ddc_book.specs.View.{faults_of};
 
 use crate::{Book, Held};
 use ddc_disk::Disk;
-use ddc_model::StoreFault;
-use ddc_names::{IoHash, Namespace, RefName, Rows};
+use ddc_model::{Entry, StoreFault, Stored};
+use ddc_names::{IoHash, Namespace, NoMemory, RefName, Rows};
 use ddc_state::Checked;
 use std::alloc::Global;
 
@@ -37,7 +41,13 @@ impl<D: Disk> Book<D> {
         ensures goes_on { GoesOn D.tells D.meaning self.old self.new }
         ensures cause { result ≡ Err StoreFault.DiskFailed → Rose (faults_of D.meaning self.old) (faults_of D.meaning self.new) }
     {
-        loop {}
+        if let Some(faults) = self.broken() {
+            return Err(StoreFault::Broken { faults });
+        }
+        if let Some(fault) = self.full(self.added_spaces(&space), None, 0) {
+            return Err(fault);
+        }
+        self.make(alloc, Entry::Space { space, ttl, pin }, None, ())
     }
 
     /// Stores a blob of at most 67,108,864 bytes in a namespace at this hour. A blob that is there is pinned from this
@@ -59,7 +69,16 @@ impl<D: Disk> Book<D> {
         ensures goes_on { GoesOn D.tells D.meaning self.old self.new }
         ensures cause { result ≡ Err StoreFault.DiskFailed → Rose (faults_of D.meaning self.old) (faults_of D.meaning self.new) }
     {
-        loop {}
+        if let Some(faults) = self.broken() {
+            return Err(StoreFault::Broken { faults });
+        }
+        if !self.has_space(&space) {
+            return Err(StoreFault::UnknownSpace);
+        }
+        match self.pinned_at(&space, &hash_of(&blob)) {
+            None => self.upload_new(alloc, &space, blob, hour),
+            Some(at) => self.upload_known(alloc, &space, &blob, at, hour),
+        }
     }
 
     /// Puts an object of at most 67,108,864 bytes under a reference at this hour, and gives the hashes that are missing
@@ -83,7 +102,16 @@ impl<D: Disk> Book<D> {
         ensures goes_on { GoesOn D.tells D.meaning self.old self.new }
         ensures cause { result ≡ Err StoreFault.DiskFailed → Rose (faults_of D.meaning self.old) (faults_of D.meaning self.new) }
     {
-        loop {}
+        if let Some(faults) = self.broken() {
+            return Err(StoreFault::Broken { faults });
+        }
+        if !self.has_space(&name.space) {
+            return Err(StoreFault::UnknownSpace);
+        }
+        match self.pinned_at(&name.space, &hash_of(&object)) {
+            None => self.put_new(alloc, &name, object, hour),
+            Some(_) => self.put_known(alloc, &name, &object, hour),
+        }
     }
 
     /// Finalises a reference at this hour, where its pending object has this hash, and gives the hashes that are
@@ -105,7 +133,14 @@ impl<D: Disk> Book<D> {
         ensures goes_on { GoesOn D.tells D.meaning self.old self.new }
         ensures cause { result ≡ Err StoreFault.DiskFailed → Rose (faults_of D.meaning self.old) (faults_of D.meaning self.new) }
     {
-        loop {}
+        if let Some(faults) = self.broken() {
+            return Err(StoreFault::Broken { faults });
+        }
+        match self.is_done(name, &hash) {
+            Err(fault) => Err(fault),
+            Ok(true) => Ok(Rows::new(alloc)),
+            Ok(false) => self.finalise_pending(alloc, name, hash, hour),
+        }
     }
 
     /// The finalised object of a reference, which was read at this hour. Where the history has no room, the reference
@@ -125,7 +160,25 @@ impl<D: Disk> Book<D> {
         ensures goes_on { GoesOn D.tells D.meaning self.old self.new }
         ensures cause { result ≡ Err StoreFault.DiskFailed → Rose (faults_of D.meaning self.old) (faults_of D.meaning self.new) }
     {
-        loop {}
+        if let Some(faults) = self.broken() {
+            return Err(StoreFault::Broken { faults });
+        }
+        let hash = match self.object_of(name) {
+            Ok(hash) => hash,
+            Err(fault) => return Err(fault),
+        };
+        let bytes = match self.copied(alloc, &name.space, hash) {
+            Ok(bytes) => bytes,
+            Err(fault) => return Err(fault),
+        };
+        let held = Held { hash, bytes };
+        match self.touch(name, hour) {
+            None => Ok(held),
+            Some(entry) => match self.commit(alloc, entry, None) {
+                Ok(()) => Ok(held),
+                Err(fault) => Err(fault),
+            },
+        }
     }
 
     /// Takes a reference away at this hour.
@@ -139,6 +192,220 @@ impl<D: Disk> Book<D> {
         ensures goes_on { GoesOn D.tells D.meaning self.old self.new }
         ensures cause { result ≡ Err StoreFault.DiskFailed → Rose (faults_of D.meaning self.old) (faults_of D.meaning self.new) }
     {
-        loop {}
+        if let Some(faults) = self.broken() {
+            return Err(StoreFault::Broken { faults });
+        }
+        if !self.has_space(&name.space) {
+            return Err(StoreFault::UnknownSpace);
+        }
+        if self.added_refs(name) == 1 {
+            return Err(StoreFault::NotFound);
+        }
+        let entry = Entry::Delete {
+            name: *name,
+            hour: self.hour_of(hour),
+        };
+        self.make(alloc, entry, None, ())
     }
+}
+
+// The parts of the commands.
+impl<D: Disk> Book<D> {
+    // Stores a blob that isn't there.
+    fn upload_new(
+        &mut self,
+        alloc: Global,
+        space: &Namespace,
+        blob: Checked,
+        hour: u32,
+    ) -> Result<(), StoreFault>
+        requires serves { Serves D.tells D.meaning self.old }
+        requires known { has_space self.old.cache.index space.now ≡ true }
+        requires absent { option_map (λ found. found.row.at) (blob_at self.old.cache.index space.now (named blob.bytes)) ≡ None }
+        requires short { length blob.bytes ≤ most_bytes }
+        ensures gives { Gives self.old blob.bytes self.new (WithRoom self.old.cache.index (past_of self.old.steps) (UploadAs self.old.cache.index space.now blob hour)) result }
+        ensures goes_on { GoesOn D.tells D.meaning self.old self.new }
+        ensures cause { result ≡ Err StoreFault.DiskFailed → Rose (faults_of D.meaning self.old) (faults_of D.meaning self.new) }
+    {
+        let Ok(fresh) = stored(alloc, &blob) else {
+            return Err(StoreFault::NoMemory);
+        };
+        if let Some(fault) = self.full(0, Some(&fresh), 0) {
+            return Err(fault);
+        }
+        let entry = Entry::Upload {
+            space: *space,
+            blob: fresh,
+            hour: self.hour_of(hour),
+        };
+        self.make(alloc, entry, Some(blob.into_whole()), ())
+    }
+
+    // Pins a blob that is there, and was stored or named last at this hour.
+    fn upload_known(
+        &mut self,
+        alloc: Global,
+        space: &Namespace,
+        blob: &Checked,
+        at: u32,
+        hour: u32,
+    ) -> Result<(), StoreFault>
+        requires serves { Serves D.tells D.meaning self.old }
+        requires known { has_space self.old.cache.index space.now ≡ true }
+        requires there { option_map (λ found. found.row.at) (blob_at self.old.cache.index space.now (named blob.now.bytes)) ≡ Some at }
+        requires short { length blob.now.bytes ≤ most_bytes }
+        ensures gives { Gives self.old blob.now.bytes self.new (WithRoom self.old.cache.index (past_of self.old.steps) (UploadAs self.old.cache.index space.now blob.now hour)) result }
+        ensures goes_on { GoesOn D.tells D.meaning self.old self.new }
+        ensures cause { result ≡ Err StoreFault.DiskFailed → Rose (faults_of D.meaning self.old) (faults_of D.meaning self.new) }
+    {
+        let hour = self.hour_of(hour);
+        if at < hour {
+            let entry = Entry::Repin {
+                space: *space,
+                hash: hash_of(blob),
+                hour,
+            };
+            self.make(alloc, entry, None, ())
+        } else {
+            Ok(())
+        }
+    }
+
+    // An object is finalised at once where nothing is missing.
+    fn put_entry(
+        &self,
+        name: &RefName,
+        root: IoHash,
+        fresh: Option<Stored>,
+        missing: &Rows<IoHash>,
+        hour: u32,
+    ) -> Entry
+        ensures { result ≡ Put name.now root fresh (is_empty missing.now) (hour_of self.now.cache.index hour) }
+    {
+        Entry::Put {
+            name: *name,
+            root,
+            fresh,
+            whole: missing.len() == 0,
+            hour: self.hour_of(hour),
+        }
+    }
+
+    // Puts an object that isn't there.
+    fn put_new(
+        &mut self,
+        alloc: Global,
+        name: &RefName,
+        object: Checked,
+        hour: u32,
+    ) -> Result<Rows<IoHash>, StoreFault>
+        requires serves { Serves D.tells D.meaning self.old }
+        requires known { has_space self.old.cache.index name.now.space ≡ true }
+        requires absent { option_map (λ found. found.row.at) (blob_at self.old.cache.index name.now.space (named object.bytes)) ≡ None }
+        requires short { length object.bytes ≤ most_bytes }
+        ensures gives { Gives self.old object.bytes self.new (WithRoom self.old.cache.index (past_of self.old.steps) (PutAs self.old.cache.index name.now object hour)) result }
+        ensures goes_on { GoesOn D.tells D.meaning self.old self.new }
+        ensures cause { result ≡ Err StoreFault.DiskFailed → Rose (faults_of D.meaning self.old) (faults_of D.meaning self.new) }
+    {
+        let Ok(fresh) = stored(alloc, &object) else {
+            return Err(StoreFault::NoMemory);
+        };
+        if let Some(fault) = self.full(0, Some(&fresh), self.added_refs(name)) {
+            return Err(fault);
+        }
+        let root = hash_of(&object);
+        let Ok(missing) = self.missing_with(alloc, &name.space, root, object.links()) else {
+            return Err(StoreFault::NoMemory);
+        };
+        let entry = self.put_entry(name, root, Some(fresh), &missing, hour);
+        self.make(alloc, entry, Some(object.into_whole()), missing)
+    }
+
+    // Puts an object that is there.
+    fn put_known(
+        &mut self,
+        alloc: Global,
+        name: &RefName,
+        object: &Checked,
+        hour: u32,
+    ) -> Result<Rows<IoHash>, StoreFault>
+        requires serves { Serves D.tells D.meaning self.old }
+        requires known { has_space self.old.cache.index name.now.space ≡ true }
+        requires there { is_some (option_map (λ found. found.row.at) (blob_at self.old.cache.index name.now.space (named object.now.bytes))) ≡ true }
+        requires short { length object.now.bytes ≤ most_bytes }
+        ensures gives { Gives self.old object.now.bytes self.new (WithRoom self.old.cache.index (past_of self.old.steps) (PutAs self.old.cache.index name.now object.now hour)) result }
+        ensures goes_on { GoesOn D.tells D.meaning self.old self.new }
+        ensures cause { result ≡ Err StoreFault.DiskFailed → Rose (faults_of D.meaning self.old) (faults_of D.meaning self.new) }
+    {
+        if let Some(fault) = self.full(0, None, self.added_refs(name)) {
+            return Err(fault);
+        }
+        let root = hash_of(object);
+        let Ok(missing) = self.missing(alloc, &name.space, root) else {
+            return Err(StoreFault::NoMemory);
+        };
+        let entry = self.put_entry(name, root, None, &missing, hour);
+        self.make(alloc, entry, None, missing)
+    }
+
+    // Finalises a reference whose pending object this is, where nothing is missing of what it reaches.
+    fn finalise_pending(
+        &mut self,
+        alloc: Global,
+        name: &RefName,
+        hash: IoHash,
+        hour: u32,
+    ) -> Result<Rows<IoHash>, StoreFault>
+        requires serves { Serves D.tells D.meaning self.old }
+        requires pending { is_done self.old.cache.index name.now hash ≡ Ok false }
+        ensures gives { Gives self.old [] self.new (WithRoom self.old.cache.index (past_of self.old.steps) (FinaliseAs self.old.cache.index name.now hash hour)) result }
+        ensures goes_on { GoesOn D.tells D.meaning self.old self.new }
+        ensures cause { result ≡ Err StoreFault.DiskFailed → Rose (faults_of D.meaning self.old) (faults_of D.meaning self.new) }
+    {
+        let Ok(missing) = self.missing(alloc, &name.space, hash) else {
+            return Err(StoreFault::NoMemory);
+        };
+        if missing.len() == 0 {
+            let entry = Entry::Finalise {
+                name: *name,
+                hash,
+                hour: self.hour_of(hour),
+            };
+            self.make(alloc, entry, None, missing)
+        } else {
+            Ok(missing)
+        }
+    }
+
+    // A reference that was read at an earlier hour is touched, where the history has room for it.
+    fn touch(&self, name: &RefName, hour: u32) -> Option<Entry>
+        ensures { result ≡ touch_with_room self.now.cache.index (past_of self.now.steps) name.now hour }
+    {
+        let entry = self.touch_entry(name, hour)?;
+        match self.no_room(&entry) {
+            None => Some(entry),
+            Some(_) => None,
+        }
+    }
+}
+
+fn hash_of(blob: &Checked) -> IoHash
+    ensures hash { result ≡ named blob.now.bytes }
+    ensures read { IsContent blob.now }
+{
+    blob.whole().hash()
+}
+
+// What an entry says of a blob.
+fn stored(alloc: Global, blob: &Checked) -> Result<Stored, NoMemory>
+    ensures stored { IfOk result (λ fresh. fresh ≡ stored blob.now) }
+    ensures read { IsContent blob.now }
+{
+    let links = Vec::from_slice(alloc, blob.links())?;
+    Ok(Stored {
+        hash: hash_of(blob),
+        len: blob.whole().bytes().len() as u64,
+        start: 0,
+        links: Rows::of_vec(links),
+    })
 }

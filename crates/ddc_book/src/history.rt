@@ -1,15 +1,19 @@
 //! The steps of a store, and what is counted of them.
 
-ghost use Rattle.std.specs.Prelude.{◌≡◌, ◌+◌, ◌++◌, ◌∷◌, [], ◌^◌, ◌<◌, true, None, length, IfOk, OnErr, OnOk};
+ghost use Rattle.std.specs.Prelude.{◌≡◌, ◌++◌, ◌∷◌, [], true, None, length, IfOk, OnErr, OnOk};
 ghost use Rattle.ddc_model.specs.declared.entry.Step.TheVariants.{Loaded, Change, Broke};
 ghost use Rattle.ddc_model.specs.Counts.{added_links, fresh_of};
-ghost use Rattle.ddc_model.specs.History.{broken_by, past_of};
+ghost use Rattle.ddc_model.specs.Entries.{after, legal};
+ghost use Rattle.ddc_model.specs.History.{broken_by, no_room, past_of};
 
 use ddc_model::{Entry, Limits, Step};
 use ddc_names::{NoMemory, Rows};
+use ddc_state::Index;
+use std::alloc::Global;
 use std::marker::Model;
 
-// Contracts see the list of the steps. The counts are those behind the opening.
+// Contracts see the list of the steps. The counts are those behind the opening. Where the store isn't broken, there is
+// room for one step more, so that it can be noted without memory that it broke.
 #[derive(Drop)]
 pub(crate) struct History {
     steps: Vec<Step>,
@@ -19,15 +23,15 @@ pub(crate) struct History {
 }
 
 impl Model for History {
-    ghost use Rattle.std.specs.Prelude.{◌≡◌, List};
+    ghost use Rattle.std.specs.Prelude.{List, vec_len, vec_capacity};
     ghost use Rattle.ddc_model.specs.declared.entry.Step.{Step};
-    ghost use Rattle.ddc_model.specs.History.{broken_by, past_of};
+    ghost use Rattle.ddc_book.specs.Tallies.{IsTallied};
 
     ghost Value = { List Step };
 
     ghost view = { λ h. h.steps.items };
 
-    ghost invariant = { λ h. (h.entries ≡ (past_of h.steps.items).entries) × (h.links ≡ (past_of h.steps.items).links) × (h.broken ≡ broken_by h.steps.items) };
+    ghost invariant = { λ h. IsTallied h.steps.items h.entries h.links h.broken (vec_len h.steps) (vec_capacity h.steps) };
 }
 
 impl History {
@@ -41,13 +45,54 @@ impl History {
         ensures { IfOk result (λ history. history ≡ steps.items ++ Loaded limits faults ∷ []) }
     {
         let mut steps = steps;
-        steps.push(Step::Loaded { limits, faults })?;
+        steps.reserve(2)?;
+        steps.push_reserved(Step::Loaded { limits, faults });
         Ok(History {
             steps,
             entries: 0,
             links: 0,
             broken: None,
         })
+    }
+
+    /// Makes an entry in the index, and its step.
+    ///
+    /// # Errors
+    ///
+    /// `NoMemory`, and all is as before.
+    pub(crate) fn make(
+        &mut self,
+        alloc: Global,
+        index: &mut Index,
+        entry: Entry,
+    ) -> Result<(), NoMemory>
+        requires unbroken { broken_by self.old ≡ None }
+        requires legal { legal index.old.state entry ≡ true }
+        requires room { no_room index.old.state (past_of self.old) entry ≡ None }
+        ensures index { OnOk result (index.new.state ≡ after index.old.state entry) }
+        ensures steps { OnOk result (self.new ≡ self.old ++ Change entry ∷ []) }
+        ensures err { OnErr result ((index.new.state ≡ index.old.state) × (self.new ≡ self.old)) }
+    {
+        let limits = index.limits();
+        self.steps.reserve(2)?;
+        index.apply(alloc, &entry)?;
+        self.entries += 1;
+        self.links += added_links_of(&entry);
+        self.steps.push_reserved(Step::Change(entry));
+        Ok(())
+    }
+
+    /// Notes that a call failed at the disks behind its entry.
+    pub(crate) fn note_broken(&mut self, before: u64, now: u64)
+        requires { broken_by self.old ≡ None }
+        ensures { self.new ≡ self.old ++ Broke true before now ∷ [] }
+    {
+        self.steps.push_reserved(Step::Broke {
+            changed: true,
+            before,
+            now,
+        });
+        self.broken = Some(now);
     }
 
     pub(crate) fn as_slice(&self) -> &[Step]
@@ -87,5 +132,19 @@ impl History {
         ensures { result ≡ self }
     {
         Rows::of_vec(self.steps)
+    }
+}
+
+// How many links an entry adds.
+pub(crate) fn added_links_of(entry: &Entry) -> u64
+    ensures { result ≡ added_links (fresh_of entry.now) }
+{
+    match entry {
+        Entry::Upload { blob, .. } => blob.links.len() as u64,
+        Entry::Put { fresh, .. } => match fresh {
+            Some(blob) => blob.links.len() as u64,
+            None => 0,
+        },
+        _ => 0,
     }
 }

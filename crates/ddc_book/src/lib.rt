@@ -14,12 +14,16 @@ mod fault;
 mod history;
 mod laws;
 mod load;
+#[cfg(test)]
+mod opening_tests;
+mod parts;
 mod reads;
+mod replay;
 #[cfg(test)]
 mod tests;
 
 pub use book::Book;
 pub use ddc_model::{Step, StoreFault, What};
 pub use fault::OpenFault;
-pub use laws::{one_opening};
+pub use laws::one_opening;
 pub use reads::{Held, Opened};

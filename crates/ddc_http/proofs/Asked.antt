@@ -1,5 +1,5 @@
 -- What a request with a body asks.
-use Rattle.std.proofs.Common.{◌≡◌, ℕ, true, false, List, Err, sym, subst, ◌∙◌}
+use Rattle.std.proofs.Common.{◌≡◌, ℕ, true, false, List, Err, sym, subst}
 use Rattle.ddc_names.specs.declared.hash.IoHash.{IoHash}
 use Rattle.ddc_names.specs.declared.reference.RefName.{RefName}
 use Rattle.tree_hash.specs.TreeHash.{io}

@@ -1,6 +1,6 @@
 //! A body as it is written.
 
-ghost use Rattle.std.specs.Prelude.{◌≡◌, ◌^◌, ◌<◌, ◌++◌, ◌∷◌, [], length, IfOk};
+ghost use Rattle.std.specs.Prelude.{◌≡◌, ◌+◌, ◌^◌, ◌<◌, ◌++◌, ◌∷◌, [], length, IfOk};
 ghost use Rattle.ddc_journal.specs.Journal.{framed};
 
 use ddc_names::NoMemory;
@@ -35,9 +35,23 @@ impl Framed {
         requires { length body.now < 2 ^ 31 }
         ensures { IfOk result (λ item. item ≡ body.now) }
     {
-        let mut bytes = Vec::with_capacity(alloc, body.len() + 5)?;
-        bytes.extend_from_slice(&(body.len() as u32).to_le_bytes())?;
-        bytes.extend_from_slice(body)?;
+        Framed::joined(alloc, body, &[])
+    }
+
+    /// The body of two parts, ready to be appended. They have fewer than 2^31 bytes.
+    ///
+    /// # Errors
+    ///
+    /// `NoMemory` where there is none for a copy.
+    pub fn joined(alloc: Global, front: &[u8], back: &[u8]) -> Result<Framed, NoMemory>
+        requires { length front.now + length back.now < 2 ^ 31 }
+        ensures { IfOk result (λ item. item ≡ front.now ++ back.now) }
+    {
+        let len = front.len() + back.len();
+        let mut bytes = Vec::with_capacity(alloc, len + 5)?;
+        bytes.extend_from_slice(&(len as u32).to_le_bytes())?;
+        bytes.extend_from_slice(front)?;
+        bytes.extend_from_slice(back)?;
         bytes.push(0)?;
         Ok(Framed { bytes })
     }

@@ -1,2 +1,3 @@
 pub mod Meeting
 pub mod Reading
+pub mod Unsound

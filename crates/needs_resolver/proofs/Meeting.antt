@@ -18,13 +18,13 @@ use Rattle.ddc_model.specs.declared.rows.BlobRow.{BlobRow}
 use Rattle.ddc_model.specs.Keys.{blob_cmp, blob_exact}
 use Rattle.ddc_model.specs.State.{blob_name}
 use Rattle.ddc_model.specs.Closure.{Links, object, IsReached}
-use Rattle.needs_resolver.specs.Walking.{Met, InWork, IsCovered, IsKnown, IsWalk, IsMet, AreMet, unmet}
+use Rattle.needs_resolver.specs.Walking.{Met, InWork, IsReachedFrom, IsCovered, IsKnown, IsWalk, IsMet, AreMet, unmet}
 use borrow.Author.Count.{below_more}
 
 abbrev Test : Type 0
 Test = IoHash → Bool
 
-covered_kept : (base : Links) (seen absent seen' absent' : Test) (node : Link) → ((h : IoHash) → seen h ≡ true → seen' h ≡ true) → ((h : IoHash) → absent h ≡ true → absent' h ≡ true) → IsCovered base seen absent node → IsCovered base seen' absent' node
+pub covered_kept : (base : Links) (seen absent seen' absent' : Test) (node : Link) → ((h : IoHash) → seen h ≡ true → seen' h ≡ true) → ((h : IoHash) → absent h ≡ true → absent' h ≡ true) → IsCovered base seen absent node → IsCovered base seen' absent' node
 covered_kept base seen absent seen' absent' node s a c = elim c [ inl x ↦ inl (a node.hash x) | inr p ↦ elim p [ inl x ↦ inr (inl (s node.hash x)) | inr q ↦ inr (inr q) ] ]
 
 was_not : (b b' : Bool) → (b ≡ true → b' ≡ true) → b' ≡ false → b ≡ false
@@ -46,13 +46,13 @@ met_known base links node old new met known = record {
   split h true e there = known.present h e
   split h false e there = ap is_some (known.others h e) ∙ there
 
-pub met_kept : (base links : Links) (root : IoHash) (node : Link) (held : IoHash) (old new : Met)
-    → IsReached links root node → IsMet base node old new → IsKnown base links old.seen old.work → IsWalk base links root old.seen old.absent (held ∷ old.work) → IsWalk base links root new.seen new.absent (held ∷ new.work)
-met_kept base links root node held old new reached met known walk = record {
-  seen_reached = λ h t. elim (met.seen_new h t) [ inl x ↦ walk.seen_reached h x | inr p ↦ subst (IsReached links root) (sym p.0) reached ];
+pub met_kept : (base links : Links) (roots : Test) (node : Link) (held : IoHash) (old new : Met)
+    → IsReachedFrom links roots node → IsMet base node old new → IsKnown base links old.seen old.work → IsWalk base links roots old.seen old.absent (held ∷ old.work) → IsWalk base links roots new.seen new.absent (held ∷ new.work)
+met_kept base links roots node held old new reached met known walk = record {
+  seen_reached = λ h t. elim (met.seen_new h t) [ inl x ↦ walk.seen_reached h x | inr p ↦ subst (IsReachedFrom links roots) (sym p.0) reached ];
   absent_missing = λ h t. elim (met.absent_new h t) [
     | inl x ↦ walk.absent_missing h x
-    | inr p ↦ (known.others h p.1 ∙ p.2, node.kind, subst (λ (g : IoHash). IsReached links root (record { kind = node.kind; hash = g })) (sym p.0) reached)
+    | inr p ↦ (reached.0, reached.1, (known.others h p.1 ∙ p.2, node.kind, subst (λ (g : IoHash). IsReached links reached.0 (record { kind = node.kind; hash = g })) (sym p.0) reached.2))
   ];
   ahead_seen = λ h t. elim t [
     | inl x ↦ met.seen_kept h (walk.ahead_seen h (inl x))
@@ -72,7 +72,7 @@ met_kept base links root node held old new reached met known walk = record {
 pub none_met : (base : Links) (found : List Link) (met : Met) → AreMet base found 0 met met
 none_met base found met = record {
   known = λ links k. k;
-  kept = λ links root held k r w. w;
+  kept = λ links roots held k r w. w;
   covered = λ k d lt. absurd (omega arith);
   still = λ l c. c;
 }
@@ -81,7 +81,7 @@ pub one_more : (base : Links) (found : List Link) (i : ℕ) (node : Link) (old n
     → AreMet base found i old now → IsMet base node now new → AreMet base found (i + 1) old new
 one_more base found i node old now new lt is before met = record {
   known = λ links k. met_known base links node now new met (before.known links k);
-  kept = λ links root held k r walk. met_kept base links root node held now new (r node (i, lt, is node)) met (before.known links k) (before.kept links root held k r walk);
+  kept = λ links roots held k r walk. met_kept base links roots node held now new (r node (i, lt, is node)) met (before.known links k) (before.kept links roots held k r walk);
   covered = λ k d below. below_more (λ j. (x : Link) → IsCovered base new.seen new.absent (slice_index_or found j x)) i
       (λ j lower x. covered_kept base now.seen now.absent new.seen new.absent (slice_index_or found j x) met.seen_kept met.absent_kept (before.covered j x lower))
       (λ x. subst (IsCovered base new.seen new.absent) (sym (is x)) met.covered) k below d;

@@ -3,6 +3,7 @@ use Rattle.std.specs.Prelude.{◌≡◌, ℕ, ◌+◌, ◌<◌, Bool, true, fals
 use Rattle.std.specs.List.{Contains}
 use Rattle.std.specs.FinMap.{entries}
 use Rattle.std.specs.BTreeSet.{contains}
+use Rattle.std.specs.BTreeMap.{is_at}
 use Rattle.ddc_names.specs.Orders.{io_hash_cmp}
 use Rattle.ddc_names.specs.declared.hash.IoHash.{IoHash}
 use Rattle.cb_fields.specs.declared.links.Link.{Link}
@@ -28,6 +29,14 @@ abbrev pub InWork : List IoHash → IoHash → Type 0
 InWork [] h = ⊥
 InWork (x ∷ xs) h = (x ≡ h) ⊎ InWork xs h
 
+-- the node is in the closure of a root
+abbrev pub IsReachedFrom : Links → (IoHash → Bool) → Link → Type 0
+IsReachedFrom links roots node = (root : IoHash) × (roots root ≡ true) × IsReached links root node
+
+-- the hash is missing of a root's closure
+abbrev pub IsMissingFrom : Links → (IoHash → Bool) → IoHash → Type 0
+IsMissingFrom links roots hash = (root : IoHash) × (roots root ≡ true) × IsMissing links root hash
+
 -- the walk has met the node: its hash is absent, or an object that was met, or a blob that is no object and is stored
 abbrev pub IsCovered : Links → (IoHash → Bool) → (IoHash → Bool) → Link → Type 0
 IsCovered base seen absent node = (absent node.hash ≡ true) ⊎ ((seen node.hash ≡ true) ⊎ ((node.kind ≡ Binary) × (is_some (base node.hash) ≡ true)))
@@ -42,10 +51,10 @@ pub record IsKnown (base links : Links) (seen : IoHash → Bool) (work : List Io
   pub others : (h : IoHash) → seen h ≡ false → links h ≡ base h
   pub unread : (h : IoHash) → InWork work h → links h ≡ base h
 
--- all that was met is in the closure, and each object that was met is in the list or is read
-pub record IsWalk (base links : Links) (root : IoHash) (seen absent : IoHash → Bool) (ahead : List IoHash) : Type 0 where
-  pub seen_reached : (h : IoHash) → seen h ≡ true → IsReached links root (object h)
-  pub absent_missing : (h : IoHash) → absent h ≡ true → IsMissing links root h
+-- all that was met is in the closures of the roots, and each object that was met is in the list or is read
+pub record IsWalk (base links : Links) (roots : IoHash → Bool) (seen absent : IoHash → Bool) (ahead : List IoHash) : Type 0 where
+  pub seen_reached : (h : IoHash) → seen h ≡ true → IsReachedFrom links roots (object h)
+  pub absent_missing : (h : IoHash) → absent h ≡ true → IsMissingFrom links roots h
   pub ahead_seen : (h : IoHash) → InWork ahead h → seen h ≡ true
   pub read : (h : IoHash) → seen h ≡ true → InWork ahead h ⊎ IsRead base links seen absent h
 
@@ -62,21 +71,32 @@ pub record IsMet (base : Links) (node : Link) (old new : Met) : Type 0 where
 -- what meeting the first nodes of a list changes
 pub record AreMet (base : Links) (found : List Link) (count : ℕ) (old new : Met) : Type 0 where
   pub known : (links : Links) → IsKnown base links old.seen old.work → IsKnown base links new.seen new.work
-  pub kept : (links : Links) (root held : IoHash) → IsKnown base links old.seen old.work → ((node : Link) → Contains found node → IsReached links root node) → IsWalk base links root old.seen old.absent (held ∷ old.work) → IsWalk base links root new.seen new.absent (held ∷ new.work)
+  pub kept : (links : Links) (roots : IoHash → Bool) (held : IoHash) → IsKnown base links old.seen old.work → ((node : Link) → Contains found node → IsReachedFrom links roots node) → IsWalk base links roots old.seen old.absent (held ∷ old.work) → IsWalk base links roots new.seen new.absent (held ∷ new.work)
   pub covered : (k : ℕ) (d : Link) → k < count → IsCovered base new.seen new.absent (slice_index_or found k d)
   pub still : (node : Link) → IsCovered base old.seen old.absent node → IsCovered base new.seen new.absent node
 
 -- what reading the links of an object changes
 pub record IsObjectRead (base : Links) (held : IoHash) (old new : Met) : Type 0 where
   pub known : (links : Links) → IsKnown base links old.seen old.work → IsKnown base links new.seen new.work
-  pub kept : (links : Links) (root : IoHash) → IsKnown base links old.seen old.work → links held ≡ base held → IsWalk base links root old.seen old.absent (held ∷ old.work) → IsWalk base links root new.seen new.absent new.work
+  pub kept : (links : Links) (roots : IoHash → Bool) → IsKnown base links old.seen old.work → links held ≡ base held → IsWalk base links roots old.seen old.absent (held ∷ old.work) → IsWalk base links roots new.seen new.absent new.work
   pub still : (node : Link) → IsCovered base old.seen old.absent node → IsCovered base new.seen new.absent node
 
 -- what reading objects, and those that are met by that, changes
 pub record AreRead (base : Links) (old new : Met) : Type 0 where
   pub known : (links : Links) → IsKnown base links old.seen old.work → IsKnown base links new.seen new.work
-  pub kept : (links : Links) (root : IoHash) → IsKnown base links old.seen old.work → IsWalk base links root old.seen old.absent old.work → IsWalk base links root new.seen new.absent new.work
+  pub kept : (links : Links) (roots : IoHash → Bool) → IsKnown base links old.seen old.work → IsWalk base links roots old.seen old.absent old.work → IsWalk base links roots new.seen new.absent new.work
   pub still : (node : Link) → IsCovered base old.seen old.absent node → IsCovered base new.seen new.absent node
+
+-- all that was met is there, and the links of each object are covered: the walk can go on from another root
+pub record IsIdle (base : Links) (met : Met) : Type 0 where
+  pub none_ahead : met.work ≡ []
+  pub none_absent : (h : IoHash) → met.absent h ≡ false
+  pub present : (h : IoHash) → met.seen h ≡ true → is_some (base h) ≡ true
+  pub read : (h : IoHash) → met.seen h ≡ true → IsRead base base met.seen met.absent h
+
+-- the roots of a walk that goes on: what it has met, and one root more
+abbrev pub with_root : (IoHash → Bool) → IoHash → IoHash → Bool
+with_root seen root h = cond (is_at (io_hash_cmp root) h) true (seen h)
 
 -- how many blobs have a hash that isn't met
 abbrev pub unmet : (IoHash → Bool) → List (BlobName × Blob) → ℕ

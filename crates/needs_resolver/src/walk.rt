@@ -1,6 +1,6 @@
 //! The walk.
 
-ghost use Rattle.std.specs.Prelude.{◌≡◌, ◌+◌, ◌≤◌, [], ◌∷◌, IfOk, OnOk, length};
+ghost use Rattle.std.specs.Prelude.{◌≡◌, ◌+◌, ◌≤◌, ◌↔◌, [], ◌∷◌, IsTrue, IfOk, OnOk, length};
 ghost use Rattle.std.specs.List.Sorted.{IsStrictlySortedBy};
 ghost use Rattle.ddc_names.specs.Orders.{io_hash_cmp};
 ghost use Rattle.ddc_model.specs.Closure.{links_in};
@@ -112,6 +112,13 @@ impl Walk {
             self.read(index, space, held)?;
         }
         Ok(())
+    }
+
+    // Whether all that was met is there.
+    pub(crate) fn is_whole(&self) -> bool
+        ensures { IsTrue result ↔ (length self.now.absent.keys ≡ 0) }
+    {
+        self.absent.is_empty()
     }
 
     // The absent hashes, in order.

@@ -88,12 +88,12 @@ sorted_step : (space : List ℕ) (spot : Option RefSpot) (slot : Slot) (es : Lis
 sorted_step space None slot es all h = h
 sorted_step space (Some spot) slot es all h = ap (λ (b : Bool). b && is_sorted ref_name_cmp (named es)) (below_named (record { space = space; spot = spot }) es all) ∙ h
 
-sorted_named : (es : List (Place × Slot)) → IsStrictlySortedBy place_cmp (keys_of es) → is_sorted ref_name_cmp (named es) ≡ true
+pub sorted_named : (es : List (Place × Slot)) → IsStrictlySortedBy place_cmp (keys_of es) → is_sorted ref_name_cmp (named es) ≡ true
 sorted_named [] s = refl
 sorted_named (e ∷ es) s = sorted_step e.0.space e.0.spot e.1 es (sorted_head place_cmp e.0 (keys_of es) s) (sorted_named es (sorted_tail place_cmp e.0 (keys_of es) s))
 
 -- the finite map's entries are the ordered map's, by names
-entries-slots_of : (es : List (Place × Slot)) → IsStrictlySortedBy place_cmp (keys_of es) → entries (slots_of es) ≡ named es
+pub entries-slots_of : (es : List (Place × Slot)) → IsStrictlySortedBy place_cmp (keys_of es) → entries (slots_of es) ≡ named es
 entries-slots_of es s =
     let t : T (is_sorted ref_name_cmp (named es)) = subst T (sym (sorted_named es s)) tt in
     ap entries (same_map ref_name_total ref_name_exact (slots_of es) (from_sorted (named es)) (λ q. get-from_entries ref_name_total (named es) q ∙ sym (get-from_sorted ref_name_cmp (named es) q t)))

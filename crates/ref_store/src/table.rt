@@ -1,17 +1,19 @@
 //! The table.
 
-ghost use Rattle.std.specs.Prelude.{◌≡◌, ◌≤◌, ◌+◌, List, None, OnOk, OnErr, IfOk, take};
+ghost use Rattle.std.specs.Prelude.{◌≡◌, ◌≤◌, ◌+◌, List, None, OnOk, OnErr, IfOk, take, option_copied};
 ghost use Rattle.std.specs.FinMap as map;
 ghost use Rattle.ref_store.specs.declared.slot.RefRow.{RefRow};
 ghost use Rattle.ref_store.specs.Pages.{cut_page, page_of, expired_of};
+ghost use Rattle.ref_store.specs.Nexts.{Next};
 
 use crate::place::Place;
-use crate::walk::{first_expired, first_rows};
+use crate::walk::{first_expired, first_from, first_rows};
 use crate::{RefRow, Slot, SlotPage};
 use ddc_names::{Namespace, NoMemory, RefName, RefSpot, Rows};
 use std::alloc::Global;
 use std::collections::BTreeMap;
 use std::marker::Model;
+use std::ops::Bound;
 
 /// The slots of references, by their names. Contracts see the finite map.
 #[derive(Drop)]
@@ -83,6 +85,17 @@ impl RefTable {
         ensures { result ≡ map.len self.now }
     {
         self.slots.len() as u64
+    }
+
+    /// The first reference behind another one by name, or the first of all, with its slot.
+    pub fn next(&self, after: Option<&RefName>) -> Option<(RefName, Slot)>
+        ensures { Next self.now (option_copied after.entry) result }
+    {
+        let start = match after {
+            Some(name) => Bound::Excluded(Place::of(name)),
+            None => Bound::Unbounded,
+        };
+        first_from(&self.slots, start)
     }
 
     /// The first `count` finalised references of a namespace whose spots are after `from`, in order.

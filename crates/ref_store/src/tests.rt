@@ -77,6 +77,35 @@ fn a_table_is_a_map_from_names_to_slots(rt: HostRuntime) -> Result<(), Fail> {
     Ok(())
 }
 
+#[test]
+fn the_references_come_one_behind_another(rt: HostRuntime) -> Result<(), Fail> {
+    let table = table_of(rt.alloc())?;
+    let mut after = None;
+    for (space, bucket, key, finalised, seen) in [
+        ("ue4", "c", 9, true, 90),
+        ("ue5", "a", 1, false, 100),
+        ("ue5", "a", 2, true, 100),
+        ("ue5", "b", 1, false, 99),
+        ("ue5", "b", 2, true, 101),
+        ("ue5", "b", 3, true, 102),
+        ("ue5", "c", 1, false, 101),
+        ("ue50", "a", 9, true, 90),
+    ] {
+        let name = name_of(space, bucket, key)?;
+        let next = table.next(after.as_ref());
+        assert_eq!(rt; next, Some((name, slot_of(key, finalised, seen))));
+        after = Some(name);
+    }
+    assert_eq!(rt; table.next(after.as_ref()), None);
+    // a name that isn't there
+    let next = table.next(Some(&name_of("ue45", "z", 7)?));
+    assert_eq!(rt;
+        next,
+        Some((name_of("ue5", "a", 1)?, slot_of(1, false, 100)))
+    );
+    Ok(())
+}
+
 fn maybe_spot(place: Option<(&str, u8)>) -> Result<Option<RefSpot>, Fail> {
     match place {
         Some((bucket, key)) => Ok(Some(spot_of(bucket, key)?)),

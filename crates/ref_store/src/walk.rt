@@ -1,15 +1,18 @@
-//! Walks over the slots of one namespace.
+//! Walks over the slots.
 
 ghost use Rattle.std.specs.Prelude.{◌≡◌, ◌≤◌, ◌+◌, ◌++◌, None, Some, IfOk, OnOk, length, take, option_to_list};
 ghost use Rattle.std.specs.Map.{keys_of};
 ghost use Rattle.std.specs.List.Sorted.{IsStrictlySortedBy};
 ghost use Rattle.std.specs.List.{filter_map};
 ghost use Rattle.ref_store.specs.Pages.{row_of, expired_spot};
-ghost use Rattle.ref_store.specs.Places.{place_cmp, run_after, at_place};
+ghost use Rattle.std.specs.List.{slice_get};
+ghost use Rattle.std.specs.declared.ops.Bound.TheVariants.{Unbounded};
+ghost use Rattle.std.specs.BTreeMap.Range.{entries_between};
+ghost use Rattle.ref_store.specs.Places.{place_cmp, named, run_after, at_place};
 
 use crate::place::Place;
 use crate::{RefRow, Slot};
-use ddc_names::{Namespace, NoMemory, RefSpot, Rows};
+use ddc_names::{Namespace, NoMemory, RefName, RefSpot, Rows};
 use std::alloc::Global;
 use std::cmp::Ordering;
 use std::collections::BTreeMap;
@@ -70,6 +73,26 @@ pub(crate) fn first_expired(
         }
     }
     Ok(spots)
+}
+
+/// The first reference in the range that begins so.
+pub(crate) fn first_from(
+    slots: &BTreeMap<Place, Slot>,
+    start: Bound<Place>,
+) -> Option<(RefName, Slot)>
+    ensures first { result ≡ slice_get (named (entries_between place_cmp start Unbounded slots.now.entries)) 0 }
+    ensures ordered { IsStrictlySortedBy place_cmp (keys_of slots.now.entries) }
+{
+    for (place, slot) in slots.range((start, Bound::Unbounded)) {
+        if let Some(spot) = place.spot {
+            let name = RefName {
+                space: place.space,
+                spot,
+            };
+            return Some((name, *slot));
+        }
+    }
+    None
 }
 
 fn push_if_some<T: Drop>(rows: &mut Rows<T>, row: Option<T>) -> Result<(), NoMemory>

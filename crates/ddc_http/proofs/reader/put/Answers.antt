@@ -1,4 +1,4 @@
-use Rattle.std.proofs.Common.{◌≡◌, ℕ, List, sym, subst, ◌∙◌, length}
+use Rattle.std.proofs.Common.{ℕ, List, sym, subst, ◌∙◌, length}
 use Rattle.ddc_protocol.specs.Requests.{puts}
 use Rattle.ddc_http.specs.Reader.{BreaksAs}
 use Rattle.ddc_http.proofs.Asked.{broken}

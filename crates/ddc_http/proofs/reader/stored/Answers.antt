@@ -1,4 +1,4 @@
-use Rattle.std.proofs.Common.{◌≡◌, true, false, length, sym, ◌∙◌, rules}
+use Rattle.std.proofs.Common.{◌≡◌, true, false, length, rules}
 use Rattle.ddc_protocol.specs.Fields.{same_text}
 use Rattle.ddc_http.proofs.Asked.{mismatched, matched}
 use Rattle.ddc_http.proofs.reader.stored.Goals as goal

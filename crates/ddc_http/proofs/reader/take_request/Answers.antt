@@ -4,7 +4,7 @@ use Rattle.ddc_protocol.specs.declared.form.Form.{Form}
 use Rattle.ddc_protocol.specs.declared.form.Form.TheVariants.{PutBlob, GetBlob, PutRef, GetRef, Finalise}
 use Rattle.ddc_protocol.specs.Requests.{body_length, fetches, reads, finalises}
 use Rattle.ddc_http.specs.declared.request.Ask.TheVariants as ask
-use Rattle.ddc_http.specs.Reader.{HasItem, HeadAt, BodyAt, AskedAs}
+use Rattle.ddc_http.specs.Reader.{HasItem, HeadAt, AskedAs}
 use Rattle.ddc_http.proofs.Taken.{whole_held, body_asked, head_asked}
 use Rattle.ddc_http.proofs.reader.take_request.Goals as goal
 

@@ -1,0 +1,17 @@
+pub mod Steps
+pub mod Tally
+pub mod Kept
+pub mod Lent
+pub mod Lengths
+pub mod Giving
+pub mod Absent
+pub mod Once
+pub mod Replaying
+pub mod OpenedBook
+pub mod Loading
+pub mod Creating
+pub mod Uploads
+pub mod Putting
+pub mod Reading
+pub mod Fitting
+pub mod Deleting

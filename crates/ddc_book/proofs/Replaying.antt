@@ -1,0 +1,76 @@
+-- What one more body leads to.
+use Rattle.std.proofs.Common.{◌≡◌, ℕ, ◌+◌, ◌<◌, List, [], ◌∷◌, ◌++◌, length, get_or, take, drop, refl, sym, ◌∙◌, ap, subst, arith, append_assoc, length-append, take-append-drop}
+use Rattle.std.proofs.lemmas.List.{take_more}
+use Rattle.std.specs.Prelude.{None, Some, Option, IfSome}
+use Rattle.std.specs.Int.{to_le_bytes, w32}
+use Rattle.ddc_journal.specs.Journal.{framed, items}
+use Rattle.ddc_model.specs.declared.rows.Limits.{Limits}
+use Rattle.ddc_model.specs.declared.entry.Entry.{Entry}
+use Rattle.ddc_model.specs.declared.entry.Stored.{Stored}
+use Rattle.ddc_model.specs.declared.entry.Step.{Step}
+use Rattle.ddc_model.specs.declared.entry.Step.TheVariants.{Loaded, Change, Broke}
+use Rattle.ddc_model.specs.State.{State, empty_state}
+use Rattle.ddc_model.specs.Entries.{after}
+use Rattle.ddc_model.specs.Counts.{fresh_of}
+use Rattle.ddc_model.specs.Commands.{changed}
+use Rattle.ddc_model.specs.Sound.{Cache, empty_cache, HasBytes}
+use Rattle.ddc_model.specs.History.{after_step, after_steps, broken_by}
+use Rattle.ddc_model.specs.Laws.{EmptyIsSound, LegalKeepsBytes, SoundHasBytes}
+use Rattle.ddc_book.specs.Opening.{Leads, length_of}
+use Rattle.ddc_book.specs.Replaying.{IsReplayed, Makes}
+
+-- a step more
+after_push : (s : State) (steps : List Step) (step : Step) → after_steps s (steps ++ step ∷ []) ≡ after_step (after_steps s steps) step
+after_push s [] step = refl
+after_push s (first ∷ steps) step = after_push (after_step s first) steps step
+
+broken_push : (steps : List Step) (entry : Entry) → broken_by steps ≡ None → broken_by (steps ++ Change entry ∷ []) ≡ None
+broken_push [] entry is = refl
+broken_push (Loaded limits faults ∷ steps) entry is = broken_push steps entry is
+broken_push (Change other ∷ steps) entry is = broken_push steps entry is
+broken_push (Broke changed before now ∷ steps) entry is = cc is
+
+-- a body more
+leads_push : (cache next end : Cache) (bodies : List (List ℕ)) (body : List ℕ) (steps longer : List Step) → Leads cache bodies next → Makes body next end steps longer → Leads cache (bodies ++ body ∷ []) end
+leads_push cache next end [] body steps longer leads makes =
+    let here : Makes body cache end steps longer = subst (λ (c : Cache). Makes body c end steps longer) leads makes in
+    (here.entry, here.bytes, here.is, here.legal_is, here.changes)
+leads_push cache next end (first ∷ bodies) body steps longer leads makes =
+    (leads.0, leads.1, leads.2, leads.3, leads_push (changed cache leads.1 (Some leads.0)) next end bodies body steps longer leads.4 makes)
+
+as_long : (fresh : Option Stored) (bytes : List ℕ) → length bytes ≡ length_of fresh → IfSome fresh (λ blob. blob.len ≡ length bytes)
+as_long None bytes is = tt
+as_long (Some blob) bytes is = sym is
+
+pub replayed_push : LegalKeepsBytes → (limits : Limits) (bodies : List (List ℕ)) (body : List ℕ) (cache next : Cache) (steps longer : List Step)
+    → IsReplayed limits bodies cache steps → Makes body cache next steps longer → IsReplayed limits (bodies ++ body ∷ []) next longer
+replayed_push keeps limits bodies body cache next steps longer so_far makes = record {
+  leads = leads_push (empty_cache limits) cache next bodies body steps longer so_far.leads makes;
+  has_bytes = subst HasBytes (sym makes.changes) (keeps cache makes.entry makes.bytes so_far.has_bytes makes.legal_is (as_long (fresh_of makes.entry) makes.bytes makes.is.sized));
+  leaves =
+      ap (λ (c : Cache). c.index) makes.changes ∙ ap (λ (s : State). after s makes.entry) so_far.leaves ∙ sym (after_push (empty_state limits) steps (Change makes.entry))
+      ∙ ap (after_steps (empty_state limits)) (sym makes.steps_are);
+  unbroken = ap broken_by makes.steps_are ∙ broken_push steps makes.entry so_far.unbroken;
+}
+
+-- the length of an item
+pub items_more : (bodies : List (List ℕ)) (body : List ℕ) → length (items (bodies ++ body ∷ [])) ≡ length (items bodies) + 5 + length body
+items_more [] body = omega (arith, length-append (to_le_bytes w32 (length body)) body, length-append (framed body) [])
+items_more (first ∷ bodies) body = omega (arith, items_more bodies body, length-append (framed first) (items (bodies ++ body ∷ [])), length-append (framed first) (items bodies))
+
+-- before the first
+pub replayed_none : SoundHasBytes → EmptyIsSound → (limits : Limits) (cache : Cache) (steps : List Step) → cache ≡ empty_cache limits → steps ≡ [] → IsReplayed limits [] cache steps
+replayed_none has sound limits cache steps is none = record {
+  leads = is;
+  has_bytes = subst HasBytes (sym is) (has (empty_cache limits) (sound limits));
+  leaves = ap (λ (c : Cache). c.index) is ∙ ap (after_steps (empty_state limits)) (sym none);
+  unbroken = ap broken_by none;
+}
+
+-- the item at a place
+pub next : (xs : List (List ℕ)) (i : ℕ) (x : List ℕ) → i < length xs → x ≡ get_or xs i x → take (i + 1) xs ≡ take i xs ++ x ∷ []
+next xs i x lt is = take_more xs i x lt ∙ ap (λ (y : List ℕ). take i xs ++ y ∷ []) (sym is)
+
+pub around : (xs : List (List ℕ)) (i : ℕ) (x : List ℕ) → i < length xs → x ≡ get_or xs i x → xs ≡ take i xs ++ x ∷ drop (i + 1) xs
+around xs i x lt is =
+    sym (take-append-drop (i + 1) xs) ∙ ap (λ (l : List (List ℕ)). l ++ drop (i + 1) xs) (next xs i x lt is) ∙ append_assoc (take i xs) (x ∷ []) (drop (i + 1) xs)

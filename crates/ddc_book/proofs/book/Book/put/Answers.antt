@@ -1,0 +1,11 @@
+use Rattle.std.proofs.Common.{◌≡◌, sym, ◌∙◌}
+use Rattle.ddc_model.specs.declared.fault.StoreFault.TheVariants.{UnknownSpace}
+use Rattle.ddc_model.specs.Commands.{PutAs}
+use Rattle.ddc_book.proofs.Giving.{refuses}
+use Rattle.ddc_book.proofs.Putting.{put_unknown}
+use Rattle.ddc_book.proofs.book.Book.put.Goals as goal
+
+pub returns-then-not-has_space-clause-gives : goal.returns-then-not-has_space-clause-gives
+returns-then-not-has_space-clause-gives g c =
+    let s = c.args.self.now.cache.index in
+    refuses c.args.self.now c.args.object.bytes (PutAs s c.args.name c.args.object c.args.hour) (sym c.in_default.ensures.count) UnknownSpace tt (put_unknown s c.args.name c.args.object c.args.hour (sym c.has_space.ensures ∙ c.if-not-has_space.true))

@@ -1,0 +1,27 @@
+use Rattle.std.proofs.Common.{[], None, refl}
+use Rattle.ddc_model.specs.declared.entry.Entry.TheVariants.{Repin}
+use Rattle.ddc_model.specs.Commands.{UploadAs}
+use Rattle.ddc_book.proofs.Giving.{makes_none, gives}
+use Rattle.ddc_book.proofs.Uploads.{upload_repins, upload_nothing}
+use Rattle.ddc_book.proofs.Fitting.{upload_fit}
+use Rattle.ddc_book.proofs.book.Book.upload_known.Goals as goal
+
+pub make-requires-clause-fit : goal.make-requires-clause-fit
+make-requires-clause-fit g c =
+    let s = c.args.self.now.cache.index in
+    let entry = Repin c.args.space.now c.hash_of.result c.hour_of-hour.result in
+    let makes = upload_repins s c.args.space.now c.args.blob.now c.args.hour c.requires.known c.args.at c.requires.there c.hash_of.result c.hour_of-hour.result c.hash_of.ensures.hash c.hour_of-hour.ensures c.if-at-hour.true in
+    upload_fit c.args.self.now.cache c.requires.serves.whole c.args.space.now c.args.blob.now c.args.hour c.hash_of.ensures.read c.requires.short entry None tt refl makes
+
+pub returns-then-at-hour-clause-gives : goal.returns-then-at-hour-clause-gives
+returns-then-at-hour-clause-gives g c =
+    let s = c.args.self.now.cache.index in
+    let entry = Repin c.args.space.now c.hash_of.result c.hour_of-hour.result in
+    let makes = upload_repins s c.args.space.now c.args.blob.now c.args.hour c.requires.known c.args.at c.requires.there c.hash_of.result c.hour_of-hour.result c.hash_of.ensures.hash c.hour_of-hour.ensures c.if-at-hour.true in
+    gives c.args.self.now c.make.new.self [] entry tt (UploadAs s c.args.space.now c.args.blob.now c.args.hour) makes c.args.blob.now.bytes refl c.make.result c.make.ensures.gives
+
+pub returns-else-at-hour-clause-gives : goal.returns-else-at-hour-clause-gives
+returns-else-at-hour-clause-gives g c =
+    let s = c.args.self.now.cache.index in
+    makes_none c.args.self.now c.args.blob.now.bytes (UploadAs s c.args.space.now c.args.blob.now c.args.hour) c.requires.serves.unbroken tt
+    (upload_nothing s c.args.space.now c.args.blob.now c.args.hour c.requires.known c.args.at c.requires.there c.hour_of-hour.result c.hour_of-hour.ensures c.if-at-hour.false)
