@@ -67,7 +67,7 @@ module _ (cache : Cache) (whole : AreWhole cache.index) (has : HasBytes cache) (
   pub serves_found : (hash : IoHash) (bytes : List ℕ) → object_of cache.index name ≡ Ok hash → get cache.bytes (blob_name name.space hash) ≡ Some bytes → serve cache name.space hash ≡ undamaged hash bytes
   serves_found hash bytes is there = λ i. served hash (if known_space hash is i then found (there i) else Err UnknownSpace)
 
-fault_of : {A : Type 0} → Result A StoreFault → StoreFault
+abbrev fault_of : {A : Type 0} → Result A StoreFault → StoreFault
 fault_of (Ok a) = NoMemory
 fault_of (Err fault) = fault
 
