@@ -65,7 +65,7 @@ fn found_store<D: Disk>(
     ensures fails { IfErr result (λ r. FailsToOpen D.tells D.meaning devices r.0 r.1) }
 {
     match Book::load(alloc, devices, Limits::standard()) {
-        Ok(book) => Ok(book),
+        Ok(found) => Ok(found),
         Err((devices, fault)) => {
             if !is_unmade(&fault) {
                 return Err((devices, Ended::Unopened(fault)));

@@ -12,8 +12,8 @@ use Rattle.ddc_command.proofs.top.found_store.Goals as goal
 
 pub returns-in-Ok-clause-found : goal.returns-in-Ok-clause-found
 returns-in-Ok-clause-found g c =
-    let P : Limits → Type 0 = λ l. IsLoaded g.D.Disk.meaning c.args.devices l c.in-Ok.book in
-    finds_loaded g.D.Disk.tells g.D.Disk.meaning c.args.devices c.in-Ok.book (subst P c.standard.ensures c.in-Ok.ensures.loaded)
+    let P : Limits → Type 0 = λ l. IsLoaded g.D.Disk.meaning c.args.devices l c.in-Ok.found in
+    finds_loaded g.D.Disk.tells g.D.Disk.meaning c.args.devices c.in-Ok.found (subst P c.standard.ensures c.in-Ok.ensures.loaded)
 
 pub returns-then-not-is_unmade-clause-fails : goal.returns-then-not-is_unmade-clause-fails
 returns-then-not-is_unmade-clause-fails g c =
