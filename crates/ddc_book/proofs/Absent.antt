@@ -55,7 +55,7 @@ module _ (s : State) (space : List ℕ) (hashes : List IoHash) (i : ℕ) (other 
       without_one (is_at (io_hash_cmp hash) q) (has_hash (take i hashes) q) (contains io_hash_cmp found q) (has_blob s space q) (λ t. ap (has_blob s space) (sym (tied_same hash q t)) ∙ there) (before q)
       ∙ ap (λ (b : Bool). b && not (has_blob s space q)) (sym (more q))
 
-both_hold : (c a b : Bool) → c ≡ (a && not b) → IsTrue c ↔ (IsTrue a × (b ≡ false))
+pub both_hold : (c a b : Bool) → c ≡ (a && not b) → IsTrue c ↔ (IsTrue a × (b ≡ false))
 both_hold true true false e = (λ t. (refl, refl), λ p. refl)
 both_hold c true true e = (λ t. absurd (cc), λ p. absurd (cc))
 both_hold c false b e = (λ t. absurd (cc), λ p. absurd (cc))

@@ -5,6 +5,7 @@ pub mod Lent
 pub mod Lengths
 pub mod Giving
 pub mod Absent
+pub mod AbsentList
 pub mod Uploads
 pub mod Putting
 pub mod Reading
