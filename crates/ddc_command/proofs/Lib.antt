@@ -6,4 +6,11 @@ pub mod Runs
 pub mod Changing
 pub mod Crashes
 pub mod Noting
+pub mod Numbers
 pub mod Statuses
+pub mod Opened
+pub mod Unopened
+pub mod Replaying
+pub mod Spaces
+pub mod Making
+pub mod Finding

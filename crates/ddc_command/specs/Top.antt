@@ -313,9 +313,12 @@ Ends scene words Untold =
 
 -- ---- its parts
 
--- what `replay` does, whatever words ask for it
+-- what a command of this form does, whatever words ask for it
+abbrev pub EndsFor : {D : Type 0} → Scene D → Form → Ended → Type 0
+EndsFor scene form ended = (words : List (String Global)) → form_of words ≡ Some form → Ends scene words ended
+
 abbrev pub EndsReplay : {D : Type 0} → Scene D → Ended → Type 0
-EndsReplay scene ended = (words : List (String Global)) → form_of words ≡ Some replay → Ends scene words ended
+EndsReplay scene ended = EndsFor scene replay ended
 
 -- what `init` does, whatever words ask for it, and whatever the clock and the source are
 abbrev pub EndsInit : {D : Type 0} → Bool → (D → Meaning) → Devices D → Devices D → Option (List ℕ) → Option (List ℕ) → ℕ → ℕ → List ℕ → ℕ → ℕ → Ended → Type 0
@@ -323,6 +326,14 @@ EndsInit tells meaning old new from to before now space ttl pin ended =
     (words : List (String Global)) (hour : Option ℕ) (input left : Option (List ℕ)) (reads reads_now : ℕ) → form_of words ≡ Some (init space ttl pin)
     → Ends (record { tells = tells; meaning = meaning; old = old; new = new; hour = hour; input = input; left = left; from = from; to = to;
       reads_before = reads; reads_now = reads_now; writes_before = before; writes_now = now }) words ended
+
+abbrev pub is_unmade : OpenFault → Bool
+is_unmade NotMade = true
+is_unmade (Corrupt file at) = false
+is_unmade (BadVersion found) = false
+is_unmade (Unsound name) = false
+is_unmade open_faults.DiskFailed = false
+is_unmade open_faults.NoMemory = false
 
 -- why there is no store in which `init` makes a namespace
 pub record FailsToOpen {D : Type 0} (tells : Bool) (meaning : D → Meaning) (old new : Devices D) (ended : Ended) : Type 0 where

@@ -1,9 +1,9 @@
 // The top call.
-ghost use Rattle.std.specs.Prelude.{◌≡◌, ◌≢◌, ◌⊎◌, ◌↔◌, None, IfOk, IfErr, true};
+ghost use Rattle.std.specs.Prelude.{◌≡◌, ◌≢◌, ◌⊎◌, ◌↔◌, None, IfOk, IfErr, string_bytes, true};
 ghost use Rattle.ddc_disk.specs.declared.devices.Devices.{Devices};
 ghost use Rattle.ddc_model.specs.Entries.{is_time};
-ghost use Rattle.ddc_command.specs.Top.{Ends, EndsInit, EndsReplay, FailsToOpen, Finds, Noted, made_line, note_of, status_of};
-ghost use Rattle.ddc_command.specs.Words.{form_of};
+ghost use Rattle.ddc_command.specs.Top.{Ends, EndsFor, EndsInit, EndsReplay, FailsToOpen, Finds, Noted, is_unmade, made_line, note_of, status_of};
+ghost use Rattle.ddc_command.specs.Words.{AreTimes, form_in, form_of};
 ghost use Rattle.ddc_command.specs.declared.end.Ended.{Ended};
 
 use crate::end::Ended;
@@ -42,6 +42,20 @@ fn replay<D: Disk, S: Source, W: Sink, C: Clock>(
     }
 }
 
+// Whether the fault is that no store was made.
+fn is_unmade(fault: &OpenFault) -> bool
+    ensures { result ≡ is_unmade fault.now }
+{
+    match fault {
+        OpenFault::NotMade => true,
+        OpenFault::Corrupt { .. } => false,
+        OpenFault::BadVersion { .. } => false,
+        OpenFault::Unsound { .. } => false,
+        OpenFault::DiskFailed => false,
+        OpenFault::NoMemory => false,
+    }
+}
+
 // The store that the devices hold, or an empty one where none was made.
 fn found_store<D: Disk>(
     alloc: Global,
@@ -51,20 +65,22 @@ fn found_store<D: Disk>(
     ensures fails { IfErr result (λ r. FailsToOpen D.tells D.meaning devices r.0 r.1) }
 {
     match Book::load(alloc, devices, Limits::standard()) {
-        Ok(book) => Ok(book),
-        Err((devices, OpenFault::NotMade)) => {
+        Ok(found) => Ok(found),
+        Err((devices, fault)) => {
+            if !is_unmade(&fault) {
+                return Err((devices, Ended::Unopened(fault)));
+            }
             match Book::create(alloc, devices, Limits::standard()) {
                 Ok(book) => Ok(book),
                 Err((devices, fault)) => Err((devices, Ended::Uncreated(fault))),
             }
         }
-        Err((devices, fault)) => Err((devices, Ended::Unopened(fault))),
     }
 }
 
 // The line on a namespace that was made.
 fn made_line(alloc: Global, space: &str, ttl: u32, pin: u32) -> Result<String, NoMemory>
-    ensures { IfOk result (λ line. line.string_bytes ≡ made_line space.now ttl pin) }
+    ensures { IfOk result (λ line. string_bytes line ≡ made_line space.now ttl pin) }
 {
     Ok(format!(in alloc; "namespace {space} ttl {ttl} pin {pin}\n")?)
 }
@@ -73,14 +89,14 @@ fn made_line(alloc: Global, space: &str, ttl: u32, pin: u32) -> Result<String, N
 fn make_space<D: Disk, W: Sink>(
     alloc: Global,
     book: Book<D>,
-    space: Namespace,
+    space: &Namespace,
     ttl: u32,
     pin: u32,
     sink: &mut W,
 ) -> (Ended, Devices<D>)
     requires ttl { is_time ttl ≡ true }
     requires pin { is_time pin ≡ true }
-    ensures ends { (old : Devices D) → Finds D.tells D.meaning old book → EndsInit D.tells D.meaning old result.1 (W.written sink.old) (W.written sink.new) (W.faults sink.old) (W.faults sink.new) space ttl pin result.0 }
+    ensures ends { (old : Devices D) → Finds D.tells D.meaning old book → EndsInit D.tells D.meaning old result.1 (W.written sink.old) (W.written sink.new) (W.faults sink.old) (W.faults sink.new) space.now ttl pin result.0 }
     ensures opened { status_of result.0 ≢ 2 }
     ensures not_usage { status_of result.0 ≢ 1 }
 {
@@ -88,7 +104,7 @@ fn make_space<D: Disk, W: Sink>(
     let Ok(line) = made_line(alloc, space.as_str(), ttl, pin) else {
         return (Ended::Unmade(StoreFault::NoMemory), book.into_devices());
     };
-    if let Err(fault) = book.set_space(alloc, space, ttl, pin) {
+    if let Err(fault) = book.set_space(alloc, *space, ttl, pin) {
         return (Ended::Unmade(fault), book.into_devices());
     }
     match put_all(sink, line.as_bytes()) {
@@ -101,20 +117,42 @@ fn make_space<D: Disk, W: Sink>(
 fn init<D: Disk, W: Sink>(
     alloc: Global,
     devices: Devices<D>,
-    space: Namespace,
+    space: &Namespace,
     ttl: u32,
     pin: u32,
     sink: &mut W,
 ) -> (Ended, Devices<D>)
     requires ttl { is_time ttl ≡ true }
     requires pin { is_time pin ≡ true }
-    ensures ends { EndsInit D.tells D.meaning devices result.1 (W.written sink.old) (W.written sink.new) (W.faults sink.old) (W.faults sink.new) space ttl pin result.0 }
+    ensures ends { EndsInit D.tells D.meaning devices result.1 (W.written sink.old) (W.written sink.new) (W.faults sink.old) (W.faults sink.new) space.now ttl pin result.0 }
     ensures untouched { status_of result.0 ≡ 2 → sink.new ≡ sink.old }
     ensures not_usage { status_of result.0 ≢ 1 }
 {
     match found_store(alloc, devices) {
         Ok(book) => make_space(alloc, book, space, ttl, pin, sink),
         Err((devices, ended)) => (ended, devices),
+    }
+}
+
+// Does what was asked for.
+fn run_asked<D: Disk, S: Source, W: Sink, C: Clock>(
+    alloc: Global,
+    asked: Asked,
+    devices: Devices<D>,
+    source: &mut S,
+    sink: &mut W,
+    clock: &C,
+) -> (Ended, Devices<D>)
+    requires { AreTimes asked }
+    ensures ends { EndsFor (record { tells = D.tells; meaning = D.meaning; old = devices; new = result.1; hour = C.tells clock.now;
+        input = S.left source.old; left = S.left source.new; from = W.written sink.old; to = W.written sink.new;
+        reads_before = S.faults source.old; reads_now = S.faults source.new; writes_before = W.faults sink.old; writes_now = W.faults sink.new }) (form_in asked) result.0 }
+    ensures untouched { status_of result.0 ≡ 2 → (source.new ≡ source.old) × (sink.new ≡ sink.old) }
+    ensures not_usage { status_of result.0 ≢ 1 }
+{
+    match asked {
+        Asked::Replay => replay(alloc, devices, source, sink, clock),
+        Asked::Init { space, ttl, pin } => init(alloc, devices, &space, ttl, pin, sink),
     }
 }
 
@@ -134,9 +172,8 @@ fn run_words<D: Disk, S: Source, W: Sink, C: Clock>(
     ensures untouched { (status_of result.0 ≡ 1) ⊎ (status_of result.0 ≡ 2) → (source.new ≡ source.old) × (sink.new ≡ sink.old) }
 {
     match asked(words) {
+        Some(asked) => run_asked(alloc, asked, devices, source, sink, clock),
         None => (Ended::Usage, devices),
-        Some(Asked::Replay) => replay(alloc, devices, source, sink, clock),
-        Some(Asked::Init { space, ttl, pin }) => init(alloc, devices, space, ttl, pin, sink),
     }
 }
 
