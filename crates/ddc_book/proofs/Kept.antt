@@ -8,7 +8,7 @@ use Rattle.ref_store.specs.declared.slot.Slot.{Slot}
 use Rattle.ddc_names.specs.declared.hash.IoHash.{IoHash}
 use Rattle.ddc_names.specs.declared.reference.RefName.{RefName}
 use Rattle.ddc_disk.specs.Causes.{Rose}
-use Rattle.ddc_disk.specs.Disk.{Timeline, Meaning, EachSince, Rests}
+use Rattle.ddc_disk.specs.Disk.{Timeline, Meaning, EachImage, EachSince, Rests}
 use Rattle.ddc_disk.specs.Images.{Images, devices_line, devices_faults}
 use Rattle.ddc_disk.specs.Since.{started, weaker}
 use Rattle.ddc_disk.specs.Lending as lending
@@ -79,6 +79,16 @@ body_is entry blob body spellable brings is = record { spellable = spellable; sp
 -- ---- nothing is made
 
 module _ {D : Type 0} (tells : Bool) (meaning : D → Meaning) (book : BookView D) (end : ℕ) (rests : (device : D) → Rests (meaning device).line) (kept : IsBook tells meaning book end) where
+  -- each crash now opens to its state
+  pub opens_now : IsTrue tells → broken_by book.steps ≡ None → EachImage (line_of meaning book) (λ im. Opens (limits_of book) im book.cache)
+  opens_now told none im now =
+      let first = meaning book.devices.first in
+      let second = meaning book.devices.second in
+      let blobs = meaning book.devices.blobs in
+      let stored = kept.now told none in
+      let now_first = (lending.each_now first second blobs (rests book.devices.first) (rests book.devices.second) (rests book.devices.blobs) im now).0 in
+      record { holds = record { generation = stored.generation; bodies = stored.bodies; loads = stored.ready.each im.first now_first; leads = stored.leads }; whole = kept.whole }
+
   pub stays : GoesOn tells meaning book book
   stays =
       let first = meaning book.devices.first in
@@ -89,10 +99,7 @@ module _ {D : Type 0} (tells : Bool) (meaning : D → Meaning) (book : BookView 
         opened = refl;
         later = omega arith;
         past = started (line_of meaning book) (λ _. Unit {0}) still (λ im now. tt);
-        crash = λ told none. started (line_of meaning book) _ still (λ im now.
-            let stored = kept.now told none in
-            let now_first = (lending.each_now first second blobs (rests book.devices.first) (rests book.devices.second) (rests book.devices.blobs) im now).0 in
-            inl (record { holds = record { generation = stored.generation; bodies = stored.bodies; loads = stored.ready.each im.first now_first; leads = stored.leads }; whole = kept.whole }));
+        crash = λ told none. started (line_of meaning book) _ still (λ im now. inl (opens_now told none im now));
       }
 
 pub serves : {D : Type 0} (tells : Bool) (meaning : D → Meaning) (rests : (device : D) → Rests (meaning device).line) {seen book : BookView D} → seen ≡ book → (end : ℕ) → IsBook tells meaning seen end → broken_by book.steps ≡ None → Serves tells meaning book

@@ -1,54 +1,31 @@
 -- What a book's type keeps once it is opened.
 use Rattle.std.proofs.Common.{◌≡◌, ℕ, ◌≤◌, List, [], ◌∷◌, ◌++◌, length, refl, sym, ◌∙◌, ap, subst, arith}
 use Rattle.std.proofs.lemmas.List.{take_all}
-use Rattle.std.specs.Prelude.{Bool, IsTrue, IsSome, IfSome, None, Some, Option}
-use Rattle.std.specs.FinMap.{get}
-use Rattle.ddc_names.specs.declared.reference.RefName.{RefName}
-use Rattle.ddc_names.specs.declared.hash.IoHash.{IoHash}
-use Rattle.ref_store.specs.declared.slot.Slot.{Slot}
+use Rattle.std.specs.Prelude.{Bool, IsTrue, IsSome, IfSome, Some, Option}
 use Rattle.ddc_disk.specs.Disk.{Timeline, Meaning, IsImage, Rests}
 use Rattle.ddc_disk.specs.Images.{Images, devices_line, devices_faults}
 use Rattle.ddc_disk.specs.Lending.{all_now, each_now, rests as all_rest}
 use Rattle.ddc_disk.specs.Told.{told_file}
 use Rattle.ddc_disk.specs.declared.devices.Devices.{Devices}
 use Rattle.ddc_model.specs.declared.rows.Limits.{Limits}
-use Rattle.ddc_model.specs.declared.entry.Stored.{Stored}
-use Rattle.ddc_model.specs.declared.entry.Entry.{Entry}
-use Rattle.ddc_model.specs.declared.entry.Entry.TheVariants.{Space, Upload, Repin, Put, Finalise, Delete, Touch}
 use Rattle.ddc_model.specs.declared.entry.Step.{Step}
 use Rattle.ddc_model.specs.declared.entry.Step.TheVariants.{Loaded, Change, Broke}
 use Rattle.ddc_model.specs.State.{State, empty_state}
-use Rattle.ddc_model.specs.Entries.{after, with_root, with_touch}
 use Rattle.ddc_model.specs.Sound.{Cache, empty_cache, IsSound}
-use Rattle.ddc_model.specs.History.{after_step, after_steps, broken_by}
+use Rattle.ddc_model.specs.History.{after_step, after_steps}
 use Rattle.ddc_book.specs.Opening.{Leads, Holds, Opens}
 use Rattle.ddc_book.specs.Laws.{OneHolding}
 use Rattle.ddc_book.specs.View.{IsBook, IsStored}
 use Rattle.ddc_book.specs.Replaying.{IsReplayed}
 use Rattle.ddc_book.specs.Found.{IsFound}
+use Rattle.ddc_book.proofs.Kept.{after_limits}
+use Rattle.ddc_book.proofs.Steps.{after_more, broken_more}
 
 -- ---- the steps
 
-touch_limits : (s : State) (name : RefName) (hour : ℕ) (slot : Option Slot) → (with_touch s name hour slot).limits ≡ s.limits
-touch_limits s name hour None = refl
-touch_limits s name hour (Some slot) = refl
-
-root_limits : (s : State) (space : List ℕ) (root : IoHash) (fresh : Option Stored) (hour : ℕ) → (with_root s space root fresh hour).limits ≡ s.limits
-root_limits s space root None hour = refl
-root_limits s space root (Some blob) hour = refl
-
-entry_limits : (s : State) (entry : Entry) → (after s entry).limits ≡ s.limits
-entry_limits s (Space space ttl pin) = refl
-entry_limits s (Upload space blob hour) = refl
-entry_limits s (Repin space hash hour) = refl
-entry_limits s (Put name root fresh whole hour) = root_limits s name.space root fresh hour
-entry_limits s (Finalise name hash hour) = refl
-entry_limits s (Delete name hour) = refl
-entry_limits s (Touch name hour) = touch_limits s name hour (get s.slots name)
-
 step_limits : (s : State) (step : Step) → (after_step s step).limits ≡ s.limits
 step_limits s (Loaded limits faults) = refl
-step_limits s (Change entry) = entry_limits s entry
+step_limits s (Change entry) = after_limits s entry
 step_limits s (Broke changed before now) = refl
 
 steps_limits : (s : State) (steps : List Step) → (after_steps s steps).limits ≡ s.limits
@@ -58,17 +35,6 @@ steps_limits s (step ∷ steps) = steps_limits (after_step s step) steps ∙ ste
 -- within these limits the state was led to
 pub limits_stay : (limits : Limits) (bodies : List (List ℕ)) (cache : Cache) (steps : List Step) → IsReplayed limits bodies cache steps → cache.index.limits ≡ limits
 limits_stay limits bodies cache steps x = ap (λ (s : State). s.limits) x.leaves ∙ steps_limits (empty_state limits) steps
-
--- an opening changes nothing, and breaks nothing
-after_opening : (s : State) (steps : List Step) (limits : Limits) (faults : ℕ) → after_steps s (steps ++ Loaded limits faults ∷ []) ≡ after_steps s steps
-after_opening s [] limits faults = refl
-after_opening s (step ∷ steps) limits faults = after_opening (after_step s step) steps limits faults
-
-opening_unbroken : (steps : List Step) (limits : Limits) (faults : ℕ) → broken_by steps ≡ None → broken_by (steps ++ Loaded limits faults ∷ []) ≡ None
-opening_unbroken [] limits faults is = refl
-opening_unbroken (Loaded other count ∷ steps) limits faults is = opening_unbroken steps limits faults is
-opening_unbroken (Change entry ∷ steps) limits faults is = opening_unbroken steps limits faults is
-opening_unbroken (Broke changed before now ∷ steps) limits faults is = cc is
 
 -- ---- the book
 
@@ -113,8 +79,8 @@ module _ {D : Type 0} (tells : Bool) (meaning : D → Meaning) (rests : (d : D) 
   is_book steps found =
       let replayed = found.replayed in
       let longer = steps ++ Loaded limits faults ∷ [] in
-      let leaves : cache.index ≡ after_steps (empty_state limits) longer = replayed.leaves ∙ sym (after_opening (empty_state limits) steps limits faults) in
-      let unbroken = opening_unbroken steps limits faults replayed.unbroken in
+      let leaves : cache.index ≡ after_steps (empty_state limits) longer = replayed.leaves ∙ sym (after_more (empty_state limits) steps (Loaded limits faults ∷ [])) in
+      let unbroken = broken_more steps (Loaded limits faults ∷ []) replayed.unbroken in
       let stored : IsTrue tells → IsStored (meaning devices.first) limits cache end =
       λ tell. let ready = found.ready tell in record { generation = ready.0; bodies = found.bodies; ready = ready.1; leads = replayed.leads } in
       record {

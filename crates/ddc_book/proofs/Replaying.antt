@@ -1,34 +1,23 @@
 -- What one more body leads to.
-use Rattle.std.proofs.Common.{◌≡◌, ℕ, ◌+◌, ◌<◌, List, [], ◌∷◌, ◌++◌, length, get_or, take, drop, refl, sym, ◌∙◌, ap, subst, arith, append_assoc, length-append, take-append-drop}
+use Rattle.std.proofs.Common.{◌≡◌, ℕ, ◌+◌, ◌<◌, List, [], ◌∷◌, ◌++◌, length, get_or, take, drop, sym, ◌∙◌, ap, subst, arith, append_assoc, length-append, take-append-drop}
 use Rattle.std.proofs.lemmas.List.{take_more}
 use Rattle.std.specs.Prelude.{None, Some, Option, IfSome}
 use Rattle.std.specs.Int.{to_le_bytes, w32}
 use Rattle.ddc_journal.specs.Journal.{framed, items}
 use Rattle.ddc_model.specs.declared.rows.Limits.{Limits}
-use Rattle.ddc_model.specs.declared.entry.Entry.{Entry}
 use Rattle.ddc_model.specs.declared.entry.Stored.{Stored}
 use Rattle.ddc_model.specs.declared.entry.Step.{Step}
-use Rattle.ddc_model.specs.declared.entry.Step.TheVariants.{Loaded, Change, Broke}
+use Rattle.ddc_model.specs.declared.entry.Step.TheVariants.{Change}
 use Rattle.ddc_model.specs.State.{State, empty_state}
 use Rattle.ddc_model.specs.Entries.{after}
 use Rattle.ddc_model.specs.Counts.{fresh_of}
 use Rattle.ddc_model.specs.Commands.{changed}
 use Rattle.ddc_model.specs.Sound.{Cache, empty_cache, HasBytes}
-use Rattle.ddc_model.specs.History.{after_step, after_steps, broken_by}
+use Rattle.ddc_model.specs.History.{after_steps, broken_by}
 use Rattle.ddc_model.specs.Laws.{EmptyIsSound, LegalKeepsBytes, SoundHasBytes}
 use Rattle.ddc_book.specs.Opening.{Leads, length_of}
 use Rattle.ddc_book.specs.Replaying.{IsReplayed, Makes}
-
--- a step more
-after_push : (s : State) (steps : List Step) (step : Step) → after_steps s (steps ++ step ∷ []) ≡ after_step (after_steps s steps) step
-after_push s [] step = refl
-after_push s (first ∷ steps) step = after_push (after_step s first) steps step
-
-broken_push : (steps : List Step) (entry : Entry) → broken_by steps ≡ None → broken_by (steps ++ Change entry ∷ []) ≡ None
-broken_push [] entry is = refl
-broken_push (Loaded limits faults ∷ steps) entry is = broken_push steps entry is
-broken_push (Change other ∷ steps) entry is = broken_push steps entry is
-broken_push (Broke changed before now ∷ steps) entry is = cc is
+use Rattle.ddc_book.proofs.Steps.{after_more, broken_more}
 
 -- a body more
 leads_push : (cache next end : Cache) (bodies : List (List ℕ)) (body : List ℕ) (steps longer : List Step) → Leads cache bodies next → Makes body next end steps longer → Leads cache (bodies ++ body ∷ []) end
@@ -48,9 +37,9 @@ replayed_push keeps limits bodies body cache next steps longer so_far makes = re
   leads = leads_push (empty_cache limits) cache next bodies body steps longer so_far.leads makes;
   has_bytes = subst HasBytes (sym makes.changes) (keeps cache makes.entry makes.bytes so_far.has_bytes makes.legal_is (as_long (fresh_of makes.entry) makes.bytes makes.is.sized));
   leaves =
-      ap (λ (c : Cache). c.index) makes.changes ∙ ap (λ (s : State). after s makes.entry) so_far.leaves ∙ sym (after_push (empty_state limits) steps (Change makes.entry))
+      ap (λ (c : Cache). c.index) makes.changes ∙ ap (λ (s : State). after s makes.entry) so_far.leaves ∙ sym (after_more (empty_state limits) steps (Change makes.entry ∷ []))
       ∙ ap (after_steps (empty_state limits)) (sym makes.steps_are);
-  unbroken = ap broken_by makes.steps_are ∙ broken_push steps makes.entry so_far.unbroken;
+  unbroken = ap broken_by makes.steps_are ∙ broken_more steps (Change makes.entry ∷ []) so_far.unbroken;
 }
 
 -- the length of an item

@@ -1,157 +1,339 @@
--- What a written reply makes of an answer.
-use Rattle.std.proofs.Common.{◌≡◌, ◌⊎◌, ℕ, ◌≤◌, List, [], Bool, true, false, Option, Some, None, Result, Ok, Err, refl, sym, ap, ◌∙◌, subst, inl, inr}
-use Rattle.std.specs.Io.KnownBytes.{Keeps}
-use Rattle.std.specs.Prelude.{if◌then◌else◌, is_some, nat_lt}
+-- What comes of a request, by what the book's call gives and by how the reply was written.
+use Rattle.std.proofs.Common.{◌≡◌, ◌⊎◌, ℕ, List, [], ◌∷◌, ◌++◌, Bool, true, false, Option, Some, None, Result, Ok, Err, refl, sym, ap, ◌∙◌, subst, inl, inr}
+use Rattle.std.specs.Prelude.{if◌then◌else◌}
 use Rattle.std.specs.FinMap.{get}
 use Rattle.ddc_names.specs.declared.hash.IoHash.{IoHash}
 use Rattle.ddc_names.specs.declared.reference.RefName.{RefName}
-use Rattle.ddc_model.specs.declared.entry.Entry.{Entry}
-use Rattle.ddc_model.specs.declared.fault.StoreFault.{StoreFault}
-use Rattle.ddc_model.specs.declared.fault.StoreFault.TheVariants.{UnknownSpace, NotFound, NotFinalised, NotPending, Full}
-use Rattle.ddc_model.specs.declared.fault.StoreFault.TheVariants as faults
-use Rattle.ddc_model.specs.Content.{Content}
-use Rattle.ddc_model.specs.Sound.{Cache}
+use Rattle.ddc_link.specs.Causes.{Rose}
+use Rattle.ddc_link.specs.Writes.{AppendsFront}
+use Rattle.ddc_disk.specs.Disk.{Meaning}
 use Rattle.ref_store.specs.declared.slot.Slot.{Slot}
-use Rattle.ddc_model.specs.declared.entry.Entry.TheVariants.{Touch}
+use Rattle.ddc_model.specs.declared.entry.Stored.{Stored}
+use Rattle.ddc_model.specs.declared.entry.Entry.{Entry}
+use Rattle.ddc_model.specs.declared.entry.Entry.TheVariants.{Space, Upload, Repin, Put, Finalise, Delete, Touch}
+use Rattle.ddc_model.specs.declared.entry.Step.{Step}
+use Rattle.ddc_model.specs.declared.entry.Step.TheVariants.{Loaded, Change, Broke}
+use Rattle.ddc_model.specs.declared.fault.StoreFault.{StoreFault}
+use Rattle.ddc_model.specs.declared.fault.StoreFault.TheVariants.{UnknownSpace, NotFound, NotFinalised, NotPending, Full, HistoryFull, Broken, DiskFailed, Damaged}
+use Rattle.ddc_model.specs.declared.fault.StoreFault.TheVariants as faults
 use Rattle.ddc_model.specs.State.{State, blob_name, has_space}
-use Rattle.ddc_model.specs.Entries.{raised, with_touch}
-use Rattle.ddc_model.specs.Commands.{UploadAs, PutAs, FinaliseAs, GetAs, GetsAs, GetWhere, done_at, object_of, touch_where, touch_entry, hour_of, found, fetch, changed, Gives, Makes}
-use Rattle.ddc_protocol.specs.Replies.{object_reply, fault_reply}
-use Rattle.ddc_protocol.specs.Requests.{Item, put_blob, put_ref, get_ref, finalise}
+use Rattle.ddc_model.specs.Entries.{after, with_root, with_touch, same_hash}
+use Rattle.ddc_model.specs.Content.{named}
+use Rattle.ddc_model.specs.Sound.{Cache}
+use Rattle.ddc_model.specs.Commands.{changed, found}
+use Rattle.ddc_model.specs.History.{Past, none_yet, past_of_all, past_after, past_of, with_entry, broken_by, unless_broken, broken_or}
+use Rattle.ddc_model.specs.Reads.{serve, served}
+use Rattle.ddc_book.specs.declared.reads.Held.{Held}
+use Rattle.ddc_book.specs.declared.reads.Opened.{Opened}
+use Rattle.ddc_book.specs.declared.reads.Opened.TheVariants.{Whole}
+use Rattle.ddc_book.specs.View.{BookView, limits_of, faults_of}
+use Rattle.ddc_book.specs.Calls.{Becomes, Makes, Breaks, Gives, GoesOn, got, whole}
+use Rattle.ddc_protocol.specs.Requests.{Item, get_blob}
 use Rattle.ddc_http.specs.declared.reply.WriteFault.{WriteFault}
 use Rattle.ddc_http.specs.declared.reply.WriteFault.TheVariants.{Failed, NoMemory}
-use Rattle.ddc_command.specs.Replies.{Answers, upload_reply, needs_reply, get_reply}
-use Rattle.ddc_command.specs.Writes.{Wrote, WritesAs, Answered, AnsweredAs}
+use Rattle.ddc_command.specs.declared.session.Served.TheVariants as ends
+use Rattle.ddc_command.specs.declared.session.Turn.TheVariants.{Ended}
+use Rattle.ddc_command.specs.Replies.{OpenStore, store_after, past_with, says_damaged, Answers, Changes, fetch_reply}
+use Rattle.ddc_command.specs.Replies as replies
+use Rattle.ddc_command.specs.Session.{store_of, failed_reply}
+use Rattle.ddc_command.specs.Writes.{WritesAs, TurnsAs, AnswersAs, written_turn, damaged_turn, turn_of}
+use Rattle.ddc_command.proofs.Writing.{whole_front, no_text}
 
--- the answer was made, or memory was wanting
-made_or_none : {A : Type 0} (cache : Cache) (bytes : List ℕ) (next : Cache) (Given : Result A StoreFault → Option Entry → Type 0) (answer : Result A StoreFault)
-    → Gives cache bytes next Given answer → Makes cache bytes next Given answer ⊎ (answer ≡ Err faults.NoMemory)
-made_or_none cache bytes next Given (Ok x) h = inl h
-made_or_none cache bytes next Given (Err UnknownSpace) h = inl h
-made_or_none cache bytes next Given (Err NotFound) h = inl h
-made_or_none cache bytes next Given (Err NotFinalised) h = inl h
-made_or_none cache bytes next Given (Err NotPending) h = inl h
-made_or_none cache bytes next Given (Err (Full what limit)) h = inl h
-made_or_none cache bytes next Given (Err faults.NoMemory) h = inr refl
-made_or_none cache bytes next Given (Err (faults.Broken count)) h = absurd h
-made_or_none cache bytes next Given (Err (faults.HistoryFull entries links)) h = absurd h
-made_or_none cache bytes next Given (Err faults.DiskFailed) h = absurd h
-made_or_none cache bytes next Given (Err (faults.Damaged named other)) h = absurd h
+-- ---- steps behind others
+
+past_more : (past : Past) (steps : List Step) (entry : Entry) → past_of_all past (steps ++ Change entry ∷ []) ≡ with_entry (past_of_all past steps) entry
+past_more past [] entry = refl
+past_more past (step ∷ steps) entry = past_more (past_after past step) steps entry
+
+past_broken : (past : Past) (steps : List Step) (entry : Entry) (changed : Bool) (before now : ℕ) → past_of_all past (steps ++ Change entry ∷ Broke changed before now ∷ []) ≡ with_entry (past_of_all past steps) entry
+past_broken past [] entry changed before now = refl
+past_broken past (step ∷ steps) entry changed before now = past_broken (past_after past step) steps entry changed before now
+
+broken_more : (steps : List Step) (entry : Entry) → broken_by (steps ++ Change entry ∷ []) ≡ broken_by steps
+broken_more [] entry = refl
+broken_more (Loaded limits count ∷ steps) entry = broken_more steps entry
+broken_more (Change other ∷ steps) entry = broken_more steps entry
+broken_more (Broke changed before now ∷ steps) entry = refl
+
+-- ---- an entry leaves the limits
+
+touch_limits : (s : State) (name : RefName) (hour : ℕ) (slot : Option Slot) → (with_touch s name hour slot).limits ≡ s.limits
+touch_limits s name hour None = refl
+touch_limits s name hour (Some slot) = refl
+
+root_limits : (s : State) (space : List ℕ) (root : IoHash) (fresh : Option Stored) (hour : ℕ) → (with_root s space root fresh hour).limits ≡ s.limits
+root_limits s space root None hour = refl
+root_limits s space root (Some blob) hour = refl
+
+after_limits : (s : State) (entry : Entry) → (after s entry).limits ≡ s.limits
+after_limits s (Space space ttl pin) = refl
+after_limits s (Upload space blob hour) = refl
+after_limits s (Repin space hash hour) = refl
+after_limits s (Put name root fresh whole hour) = root_limits s name.space root fresh hour
+after_limits s (Finalise name hash hour) = refl
+after_limits s (Delete name hour) = refl
+after_limits s (Touch name hour) = touch_limits s name hour (get s.slots name)
 
 -- a fault told apart from another
-pub fault_is : {A : Type 0} (fault other : StoreFault) → ◌≡◌ {A = Result A StoreFault} (Err fault) (Err other) → fault ≡ other
+fault_is : {A : Type 0} (fault other : StoreFault) → ◌≡◌ {A = Result A StoreFault} (Err fault) (Err other) → fault ≡ other
 fault_is fault other e = cc
 
--- a touch leaves all bytes
-touched : (cache : Cache) (name : RefName) (hour : ℕ) (slot : Option Slot) → (changed cache [] (touch_where slot name hour)).bytes ≡ cache.bytes
-touched cache name hour None = refl
-touched cache name hour (Some slot) = by_cases (nat_lt slot.seen hour) where
-  by_cases : (later : Bool) → (changed cache [] (if later then Some (Touch name hour) else None)).bytes ≡ cache.bytes
-  by_cases true = refl
-  by_cases false = refl
+-- ---- what was written
 
--- a fetched object has its bytes
-record Fetched (cache : Cache) (name : RefName) (hour : ℕ) (hash : IoHash) (bytes : List ℕ) (made : Option Entry) : Type 0 where
-  there : get cache.bytes (blob_name name.space hash) ≡ Some bytes
-  touch : made ≡ touch_entry cache.index name hour
+store_is : (cache other : Cache) (past later : Past) → cache ≡ other → past ≡ later → ◌≡◌ {A = OpenStore} (record { cache = cache; past = past }) (record { cache = other; past = later })
+store_is cache other past later e f = ap (λ (c : Cache). let s : OpenStore = record { cache = c; past = past } in s) e ∙ ap (λ (p : Past). let s : OpenStore = record { cache = other; past = p } in s) f
 
-fetched : (cache : Cache) (name : RefName) (hour : ℕ) (hash : IoHash) (bytes : List ℕ) (made : Option Entry) (object : Result IoHash StoreFault) → GetWhere object cache name hour (Ok (hash, bytes)) made → Fetched cache name hour hash bytes made
-fetched cache name hour hash bytes made (Err fault) (e, _) = absurd (cc)
-fetched cache name hour hash bytes made (Ok object) (other, there, e, touch) =
-    let same : (hash, bytes) ≡ (object, other) = cc in
-    let hashes : hash ≡ object = ap (λ (p : IoHash × List ℕ). p.0) same in
-    let both : bytes ≡ other = ap (λ (p : IoHash × List ℕ). p.1) same in
-    record { there = ap (λ (h : IoHash). get cache.bytes (blob_name name.space h)) hashes ∙ there ∙ ap (λ (b : List ℕ). Some b) (sym both); touch = touch }
+module _ (old new : Option (List ℕ)) (before now : ℕ) (text : List ℕ) where
+  written_rises : (written : Result (Unit {0}) WriteFault) → WritesAs old new before now text written → written_turn written ≡ Ended ends.WriteFailed → Rose before now
+  written_rises (Ok u) w e = absurd (cc)
+  written_rises (Err Failed) w e = w.wrote.1
+  written_rises (Err NoMemory) w e = absurd (cc)
 
--- a touch leaves all namespaces
-seen : (s : State) (name : RefName) (hour : ℕ) (slot : Option Slot) → (raised (with_touch s name hour slot) hour).spaces ≡ s.spaces
-seen s name hour None = refl
-seen s name hour (Some slot) = refl
+  damaged_rises : (written : Result (Unit {0}) WriteFault) → WritesAs old new before now text written → damaged_turn written ≡ Ended ends.WriteFailed → Rose before now
+  damaged_rises (Ok u) w e = absurd (cc)
+  damaged_rises (Err Failed) w e = w.wrote.1
+  damaged_rises (Err NoMemory) w e = absurd (cc)
 
-touched_spaces : (cache : Cache) (name : RefName) (hour : ℕ) (slot : Option Slot) → (changed cache [] (touch_where slot name hour)).index.spaces ≡ cache.index.spaces
-touched_spaces cache name hour None = refl
-touched_spaces cache name hour (Some slot) = by_cases (nat_lt slot.seen hour) where
-  by_cases : (later : Bool) → (changed cache [] (if later then Some (Touch name hour) else None)).index.spaces ≡ cache.index.spaces
-  by_cases true = seen cache.index name hour (get cache.index.slots name)
-  by_cases false = refl
+  -- whatever became of the writing, a front was written
+  any_front : (written : Result (Unit {0}) WriteFault) → WritesAs old new before now text written → AppendsFront old new text
+  any_front (Ok u) w = whole_front old new text w.wrote
+  any_front (Err Failed) w = w.wrote.0
+  any_front (Err NoMemory) w = no_text old new text w.wrote
 
--- the namespace of a fetched object is known
-known : (cache : Cache) (name : RefName) (hour : ℕ) (hash : IoHash) (bytes : List ℕ) (made : Option Entry) → GetAs cache name hour (Ok (hash, bytes)) made → has_space cache.index name.space ≡ true
-known cache name hour hash bytes made given = by_cases (has_space cache.index name.space) given where
-  by_cases : (there : Bool) → GetWhere (if there then done_at (get cache.index.slots name) else Err UnknownSpace) cache name hour (Ok (hash, bytes)) made → there ≡ true
-  by_cases true gives = refl
-  by_cases false (e, _) = absurd (cc)
+written_goes_on : (written : Result (Unit {0}) WriteFault) → written_turn written ≡ Ended ends.DiskFailed → ⊥
+written_goes_on (Ok u) e = cc
+written_goes_on (Err Failed) e = cc
+written_goes_on (Err NoMemory) e = cc
 
--- what was fetched of a reference is the blob that is found afterwards
-fetched_again : (cache next : Cache) (name : RefName) (hour : ℕ) (hash : IoHash) (bytes : List ℕ) (made : Option Entry) → GetAs cache name hour (Ok (hash, bytes)) made → next ≡ changed cache [] made → fetch next name.space hash ≡ Ok bytes
-fetched_again cache next name hour hash bytes made given is =
-    let f = fetched cache name hour hash bytes made (object_of cache.index name) given in
-    let touch : next ≡ changed cache [] (touch_entry cache.index name hour) = is ∙ ap (changed cache []) f.touch in
-    let slot = get cache.index.slots name in
-    let spaces : next.index.spaces ≡ cache.index.spaces = ap (λ (c : Cache). c.index.spaces) touch ∙ touched_spaces cache name (hour_of cache.index hour) slot in
-    let kept : next.bytes ≡ cache.bytes = ap (λ (c : Cache). c.bytes) touch ∙ touched cache name (hour_of cache.index hour) slot in
-    let there : has_space next.index name.space ≡ true = ap (λ spaces. is_some (get spaces name.space)) spaces ∙ known cache name hour hash bytes made given in
-    let blob : get next.bytes (blob_name name.space hash) ≡ Some bytes = ap (λ all. get all (blob_name name.space hash)) kept ∙ f.there in
-    λ i. if there i then found (blob i) else Err UnknownSpace
+damaged_ends : (written : Result (Unit {0}) WriteFault) → damaged_turn written ≡ Ended ends.DiskFailed → ⊥
+damaged_ends (Ok u) e = cc
+damaged_ends (Err Failed) e = cc
+damaged_ends (Err NoMemory) e = cc
 
--- so it is there
-pub not_refused : (cache next : Cache) (name : RefName) (hour : ℕ) (hash : IoHash) (fault : StoreFault) → Gives cache [] next (GetsAs cache name hour) (Ok hash) → fetch next name.space hash ≡ Err fault → ⊥
-not_refused cache next name hour hash fault (made, (bytes, given), is) refused =
-    let e : Ok bytes ≡ Err fault = sym (fetched_again cache next name hour hash bytes made given is) ∙ refused in
-    cc
+-- ---- one request
 
-module _ (old new : Option (List ℕ)) (before now : ℕ) (close : Bool) (hour : ℕ) (cache : Cache) (next : Cache) where
-  answer_wrote : (item : Item) (text : List ℕ) (result : Result (Unit {0}) WriteFault) → Answers close hour cache item text next → Wrote old new before now text result → Answered old new before now close hour cache item next result
-  answer_wrote item text (Ok u) a w = (text, a, w)
-  answer_wrote item text (Err Failed) a w = (text, next, a, w.0, w.1)
-  answer_wrote item text (Err NoMemory) a w = w
+module _ {D : Type 0} (tells : Bool) (meaning : D → Meaning) (old new : Option (List ℕ)) (before now : ℕ) (close : Bool) (hour : ℕ) (book next : BookView D) (unbroken : broken_by book.steps ≡ None) (devices : (next ≡ book) ⊎ GoesOn tells meaning book next) where
+  abbrev store : OpenStore
+  store = store_of book
 
-  -- the text of an answer was written
-  pub answered : (item : Item) (text : List ℕ) (result : Result (Unit {0}) WriteFault) → Answers close hour cache item text next → WritesAs old new before now text result → AnsweredAs old new before now close hour cache item next result
-  answered item text result a w = record { answered = answer_wrote item text result a w.wrote; later = w.later }
+  abbrev behind : OpenStore
+  behind = store_of next
 
-  nothing : (item : Item) (text : List ℕ) (result : Result (Unit {0}) WriteFault) → result ≡ Err NoMemory → Wrote old new before now text result → Answered old new before now close hour cache item next result
-  nothing item text result e w = subst (λ (r : Result (Unit {0}) WriteFault). Answered old new before now close hour cache item next r) (sym e) (subst (λ (r : Result (Unit {0}) WriteFault). Wrote old new before now text r) e w)
+  becomes_store : (bytes : List ℕ) (made : Option Entry) → Becomes book bytes next made → behind ≡ store_after store bytes made
+  becomes_store bytes None is = ap (λ (b : BookView D). store_of b) is
+  becomes_store bytes (Some entry) (cache, steps) = store_is next.cache (changed book.cache bytes (Some entry)) (past_of next.steps) (with_entry (past_of book.steps) entry) cache (ap past_of steps ∙ past_more none_yet book.steps entry)
 
-  unanswered : (item : Item) (text : List ℕ) (result : Result (Unit {0}) WriteFault) → result ≡ Err NoMemory → WritesAs old new before now text result → AnsweredAs old new before now close hour cache item next result
-  unanswered item text result e w = record { answered = nothing item text result e w.wrote; later = w.later }
+  becomes_limits : (bytes : List ℕ) (made : Option Entry) → Becomes book bytes next made → limits_of next ≡ limits_of book
+  becomes_limits bytes None is = ap (λ (b : BookView D). limits_of b) is
+  becomes_limits bytes (Some entry) (cache, steps) = ap (λ (c : Cache). c.index.limits) cache ∙ after_limits book.cache.index entry
 
-  pub uploaded : (space : List ℕ) (content : Content) (answer : Result (Unit {0}) StoreFault) (result : Result (Unit {0}) WriteFault)
-      → Gives cache content.bytes next (UploadAs cache.index space content hour) answer → (answer ≡ Err faults.NoMemory → result ≡ Err NoMemory)
-      → WritesAs old new before now (upload_reply content close answer) result → AnsweredAs old new before now close hour cache (put_blob space content) next result
-  uploaded space content answer result gives none w = elim (made_or_none cache content.bytes next (UploadAs cache.index space content hour) answer gives) [
-    | inl (made, given, is) ↦ answered (put_blob space content) (upload_reply content close answer) result (answer, made, given, refl, is) w
-    | inr e ↦ unanswered (put_blob space content) (upload_reply content close answer) result (none e) w
+  becomes_unbroken : (bytes : List ℕ) (made : Option Entry) → Becomes book bytes next made → broken_by next.steps ≡ None
+  becomes_unbroken bytes None is = ap (λ (b : BookView D). broken_by b.steps) is ∙ unbroken
+  becomes_unbroken bytes (Some entry) (cache, steps) = ap broken_by steps ∙ broken_more book.steps entry ∙ unbroken
+
+  -- by how the command reads for the item
+  module _ {A : Type 0} (item : Item) (bytes : List ℕ) (Command : Result A StoreFault → Option Entry → Type 0) (reply : Result A StoreFault → List ℕ)
+      (gives : (damaged : Bool) (text : List ℕ) (after : OpenStore) → replies.Gives damaged store bytes Command reply text after → Answers damaged close hour store item text after)
+      (changes : (after : OpenStore) → replies.Makes store bytes Command after → Changes hour store item after) where
+    made : (answer : Result A StoreFault) → Makes book bytes next Command answer → Answers (says_damaged answer) close hour store item (reply answer) behind
+    made answer (_, entry, given, becomes) = gives (says_damaged answer) (reply answer) behind (answer, entry, given, refl, becomes_store bytes entry becomes, refl)
+
+    fine_turned : (answer : Result A StoreFault) (written : Result (Unit {0}) WriteFault) → Answers false close hour store item (reply answer) behind → WritesAs old new before now (reply answer) written
+        → TurnsAs old new close hour store item behind (written_turn written)
+    fine_turned answer (Ok u) is w = (reply answer, is, w.wrote)
+    fine_turned answer (Err Failed) is w = (false, reply answer, is, w.wrote.0)
+    fine_turned answer (Err NoMemory) is w = (w.wrote, inr (reply answer, is))
+
+    fine : (answer : Result A StoreFault) (written : Result (Unit {0}) WriteFault) → says_damaged answer ≡ false → Makes book bytes next Command answer → WritesAs old new before now (reply answer) written
+        → AnswersAs tells meaning old new before now close hour book item next (written_turn written)
+    fine answer written sound (ready, entry, given, becomes) w = record {
+      turned = fine_turned answer written (subst (λ (d : Bool). Answers d close hour store item (reply answer) behind) sound (made answer (ready, entry, given, becomes))) w;
+      devices = devices;
+      limits = becomes_limits bytes entry becomes;
+      unbroken = λ _. becomes_unbroken bytes entry becomes;
+      later = w.later;
+      write = written_rises old new before now (reply answer) written w;
+      disk = λ e. absurd (written_goes_on written e);
+    }
+
+    damaged_turned : (answer : Result A StoreFault) (written : Result (Unit {0}) WriteFault) → Answers true close hour store item (reply answer) behind → WritesAs old new before now (reply answer) written
+        → TurnsAs old new close hour store item behind (damaged_turn written)
+    damaged_turned answer (Ok u) is w = (reply answer, is, whole_front old new (reply answer) w.wrote)
+    damaged_turned answer (Err Failed) is w = (true, reply answer, is, w.wrote.0)
+    damaged_turned answer (Err NoMemory) is w = (reply answer, is, no_text old new (reply answer) w.wrote)
+
+    damaged : (name found : IoHash) (written : Result (Unit {0}) WriteFault) → Makes book bytes next Command (Err (Damaged name found)) → WritesAs old new before now (reply (Err (Damaged name found))) written
+        → AnswersAs tells meaning old new before now close hour book item next (damaged_turn written)
+    damaged name found written (ready, entry, given, becomes) w = record {
+      turned = damaged_turned (Err (Damaged name found)) written (made (Err (Damaged name found)) (ready, entry, given, becomes)) w;
+      devices = devices;
+      limits = becomes_limits bytes entry becomes;
+      unbroken = λ _. becomes_unbroken bytes entry becomes;
+      later = w.later;
+      write = damaged_rises old new before now (reply (Err (Damaged name found))) written w;
+      disk = λ e. absurd (damaged_ends written e);
+    }
+
+    breaks : (written : Result (Unit {0}) WriteFault) → reply (Err DiskFailed) ≡ failed_reply → Breaks book bytes next Command → Rose (faults_of meaning book) (faults_of meaning next) → WritesAs old new before now (reply (Err DiskFailed)) written
+        → AnswersAs tells meaning old new before now close hour book item next (Ended ends.DiskFailed)
+    breaks written text (_, value, entry, count, risen, given, cache, steps) cause w =
+        let is : behind ≡ store_after store bytes (Some entry) = store_is next.cache (changed book.cache bytes (Some entry)) (past_of next.steps) (with_entry (past_of book.steps) entry) cache (ap past_of steps ∙ past_broken none_yet book.steps entry true count risen) in
+        record {
+          turned = (changes behind (value, entry, given, is), subst (AppendsFront old new) text (any_front old new before now (reply (Err DiskFailed)) written w));
+          devices = devices;
+          limits = ap (λ (c : Cache). c.index.limits) cache ∙ after_limits book.cache.index entry;
+          unbroken = λ other. absurd (other refl);
+          later = w.later;
+          write = λ e. absurd (cc);
+          disk = λ _. cause;
+        }
+
+    starves : (text : List ℕ) (written : Result (Unit {0}) WriteFault) → next ≡ book → written ≡ Err NoMemory → WritesAs old new before now text written
+        → AnswersAs tells meaning old new before now close hour book item next (written_turn written)
+    starves text (Ok u) same none w = absurd (cc)
+    starves text (Err Failed) same none w = absurd (cc)
+    starves text (Err NoMemory) same none w = record {
+      turned = (w.wrote, inl (ap (λ (b : BookView D). store_of b) same));
+      devices = devices;
+      limits = ap (λ (b : BookView D). limits_of b) same;
+      unbroken = λ _. ap (λ (b : BookView D). broken_by b.steps) same ∙ unbroken;
+      later = w.later;
+      write = λ e. absurd (cc);
+      disk = λ e. absurd (cc);
+    }
+
+    -- whatever the book answered
+    pub answers : (answer : Result A StoreFault) (written : Result (Unit {0}) WriteFault) → reply (Err DiskFailed) ≡ failed_reply → Gives book bytes next Command answer
+        → (answer ≡ Err DiskFailed → Rose (faults_of meaning book) (faults_of meaning next)) → (answer ≡ Err faults.NoMemory → written ≡ Err NoMemory) → WritesAs old new before now (reply answer) written
+        → AnswersAs tells meaning old new before now close hour book item next (turn_of answer written)
+    answers (Ok value) written text given cause none w = fine (Ok value) written refl given w
+    answers (Err (Broken count)) written text given cause none w = absurd (let was = given.0 in cc)
+    answers (Err UnknownSpace) written text given cause none w = fine (Err UnknownSpace) written refl given w
+    answers (Err NotFound) written text given cause none w = fine (Err NotFound) written refl given w
+    answers (Err NotFinalised) written text given cause none w = fine (Err NotFinalised) written refl given w
+    answers (Err NotPending) written text given cause none w = fine (Err NotPending) written refl given w
+    answers (Err (Full what limit)) written text given cause none w = fine (Err (Full what limit)) written refl given w
+    answers (Err (HistoryFull entries links)) written text given cause none w = fine (Err (HistoryFull entries links)) written refl given w
+    answers (Err faults.NoMemory) written text given cause none w = starves (reply (Err faults.NoMemory)) written given.1 (none refl) w
+    answers (Err DiskFailed) written text given cause none w = breaks written text given (cause refl) w
+    answers (Err (Damaged name found)) written text given cause none w = damaged name found written given w
+
+-- ---- the object of a reference
+
+module _ {D : Type 0} (book next : BookView D) (Command : Result (IoHash × List ℕ) StoreFault → Option Entry → Type 0) where
+  pub got_gives : (answer : Result Held StoreFault) → Gives book [] next (λ held made. Command (got held) made) answer → Gives book [] next Command (got answer)
+  got_gives (Ok held) given = given
+  got_gives (Err (Broken count)) given = given
+  got_gives (Err UnknownSpace) given = given
+  got_gives (Err NotFound) given = given
+  got_gives (Err NotFinalised) given = given
+  got_gives (Err NotPending) given = given
+  got_gives (Err (Full what limit)) given = given
+  got_gives (Err (HistoryFull entries links)) given = given
+  got_gives (Err faults.NoMemory) given = given
+  got_gives (Err DiskFailed) (ready, held, entry, before, now, given, cache, steps) = (ready, (held.hash, held.bytes), entry, before, now, given, cache, steps)
+  got_gives (Err (Damaged name found)) given = given
+
+pub got_fault : (answer : Result Held StoreFault) (fault : StoreFault) → got answer ≡ Err fault → answer ≡ Err fault
+got_fault (Ok held) fault e = absurd (cc)
+got_fault (Err other) fault e = let same : other ≡ fault = fault_is other fault e in ap (λ (f : StoreFault). let r : Result Held StoreFault = Err f in r) same
+
+pub got_turn : (answer : Result Held StoreFault) (written : Result (Unit {0}) WriteFault) → turn_of (got answer) written ≡ turn_of answer written
+got_turn (Ok held) written = refl
+got_turn (Err fault) written = refl
+
+-- ---- the bytes of a blob
+
+-- no fault of the store as a whole comes of looking a blob up
+abbrev pub IsOfBlob : StoreFault → Type 0
+IsOfBlob (Broken count) = ⊥
+IsOfBlob UnknownSpace = Unit {0}
+IsOfBlob NotFound = Unit {0}
+IsOfBlob NotFinalised = Unit {0}
+IsOfBlob NotPending = Unit {0}
+IsOfBlob (Full what limit) = Unit {0}
+IsOfBlob (HistoryFull entries links) = Unit {0}
+IsOfBlob faults.NoMemory = Unit {0}
+IsOfBlob DiskFailed = ⊥
+IsOfBlob (Damaged name found) = Unit {0}
+
+abbrev pub IsOfBlobs : Result (List ℕ) StoreFault → Type 0
+IsOfBlobs (Ok bytes) = Unit {0}
+IsOfBlobs (Err fault) = IsOfBlob fault
+
+of_test : (hash other : IoHash) (bytes : List ℕ) (same : Bool) → IsOfBlobs (if same then Ok bytes else Err (Damaged hash other))
+of_test hash other bytes true = tt
+of_test hash other bytes false = tt
+
+of_found : (hash : IoHash) (blob : Option (List ℕ)) → IsOfBlobs (served hash (found blob))
+of_found hash (Some bytes) = of_test hash (named bytes) bytes (same_hash (named bytes) hash)
+of_found hash None = tt
+
+of_space : (hash : IoHash) (blob : Option (List ℕ)) (there : Bool) → IsOfBlobs (served hash (if there then found blob else Err UnknownSpace))
+of_space hash blob true = of_found hash blob
+of_space hash blob false = tt
+
+pub is_of_blobs : (cache : Cache) (space : List ℕ) (hash : IoHash) → IsOfBlobs (serve cache space hash)
+is_of_blobs cache space hash = of_space hash (get cache.bytes (blob_name space hash)) (has_space cache.index space)
+
+-- what a look-up answers, as a command that makes nothing
+abbrev pub FetchAs : Result (List ℕ) StoreFault → Result (List ℕ) StoreFault → Option Entry → Type 0
+FetchAs served answer made = (answer ≡ served) × (made ≡ None)
+
+module _ {D : Type 0} (book next : BookView D) (unbroken : broken_by book.steps ≡ None) (same : next ≡ book) where
+  fetch_gives : (served : Result (List ℕ) StoreFault) → IsOfBlobs served → Gives book [] next (FetchAs served) served
+  fetch_gives (Ok bytes) is = (unbroken, None, (refl, refl), same)
+  fetch_gives (Err (Broken count)) is = absurd is
+  fetch_gives (Err UnknownSpace) is = (unbroken, None, (refl, refl), same)
+  fetch_gives (Err NotFound) is = (unbroken, None, (refl, refl), same)
+  fetch_gives (Err NotFinalised) is = (unbroken, None, (refl, refl), same)
+  fetch_gives (Err NotPending) is = (unbroken, None, (refl, refl), same)
+  fetch_gives (Err (Full what limit)) is = (unbroken, None, (refl, refl), same)
+  fetch_gives (Err (HistoryFull entries links)) is = (unbroken, None, (refl, refl), same)
+  fetch_gives (Err faults.NoMemory) is = (unbroken, same)
+  fetch_gives (Err DiskFailed) is = absurd is
+  fetch_gives (Err (Damaged name found)) is = (unbroken, None, (refl, refl), same)
+
+  pub whole_gives : (space : List ℕ) (hash : IoHash) (answer : Result Opened StoreFault) → (answer ≡ Err faults.NoMemory) ⊎ (whole answer ≡ unless_broken book.steps (serve book.cache space hash))
+      → Gives book [] next (FetchAs (serve book.cache space hash)) (whole answer)
+  whole_gives space hash answer given = elim given [
+    | inl e ↦ subst (λ (r : Result Opened StoreFault). Gives book [] next (FetchAs (serve book.cache space hash)) (whole r)) (sym e) (unbroken, same)
+    | inr e ↦
+        let is : whole answer ≡ serve book.cache space hash = e ∙ ap (λ (b : Option ℕ). broken_or b (serve book.cache space hash)) unbroken in
+        subst (λ (r : Result (List ℕ) StoreFault). Gives book [] next (FetchAs (serve book.cache space hash)) r) (sym is) (fetch_gives (serve book.cache space hash) (is_of_blobs book.cache space hash))
   ]
 
-  pub put_answered : (name : RefName) (content : Content) (answer : Result (List IoHash) StoreFault) (result : Result (Unit {0}) WriteFault)
-      → Gives cache content.bytes next (PutAs cache.index name content hour) answer → (answer ≡ Err faults.NoMemory → result ≡ Err NoMemory)
-      → WritesAs old new before now (needs_reply close answer) result → AnsweredAs old new before now close hour cache (put_ref name content) next result
-  put_answered name content answer result gives none w = elim (made_or_none cache content.bytes next (PutAs cache.index name content hour) answer gives) [
-    | inl (made, given, is) ↦ answered (put_ref name content) (needs_reply close answer) result (answer, made, given, refl, is) w
-    | inr e ↦ unanswered (put_ref name content) (needs_reply close answer) result (none e) w
-  ]
+pub whole_fault : (answer : Result Opened StoreFault) (fault : StoreFault) → whole answer ≡ Err fault → answer ≡ Err fault
+whole_fault (Ok (Whole bytes)) fault e = absurd (cc)
+whole_fault (Err other) fault e = let same : other ≡ fault = fault_is other fault e in ap (λ (f : StoreFault). let r : Result Opened StoreFault = Err f in r) same
 
-  pub finalise_answered : (name : RefName) (hash : IoHash) (answer : Result (List IoHash) StoreFault) (result : Result (Unit {0}) WriteFault)
-      → Gives cache [] next (FinaliseAs cache.index name hash hour) answer → (answer ≡ Err faults.NoMemory → result ≡ Err NoMemory)
-      → WritesAs old new before now (needs_reply close answer) result → AnsweredAs old new before now close hour cache (finalise name hash) next result
-  finalise_answered name hash answer result gives none w = elim (made_or_none cache [] next (FinaliseAs cache.index name hash hour) answer gives) [
-    | inl (made, given, is) ↦ answered (finalise name hash) (needs_reply close answer) result (answer, made, given, refl, is) w
-    | inr e ↦ unanswered (finalise name hash) (needs_reply close answer) result (none e) w
-  ]
+pub whole_turn : (answer : Result Opened StoreFault) (written : Result (Unit {0}) WriteFault) → turn_of (whole answer) written ≡ turn_of answer written
+whole_turn (Ok (Whole bytes)) written = refl
+whole_turn (Err fault) written = refl
 
-  pub get_refused : (name : RefName) (fault : StoreFault) (result : Result (Unit {0}) WriteFault)
-      → Gives cache [] next (GetsAs cache name hour) (Err fault) → (fault ≡ faults.NoMemory → result ≡ Err NoMemory)
-      → WritesAs old new before now (fault_reply fault close) result → AnsweredAs old new before now close hour cache (get_ref name) next result
-  get_refused name fault result gives none w = elim (made_or_none cache [] next (GetsAs cache name hour) (Err fault) gives) [
-    | inl (made, given, is) ↦ answered (get_ref name) (fault_reply fault close) result (Err fault, made, given, refl, is) w
-    | inr e ↦ unanswered (get_ref name) (fault_reply fault close) result (none (fault_is fault faults.NoMemory e)) w
-  ]
+no_disk : (served : Result (List ℕ) StoreFault) → IsOfBlobs served → served ≡ Err DiskFailed → ⊥
+no_disk (Ok bytes) is e = cc
+no_disk (Err fault) is e = subst IsOfBlob (fault_is fault DiskFailed e) is
 
-  pub got : (name : RefName) (hash : IoHash) (bytes : List ℕ) (result : Result (Unit {0}) WriteFault)
-      → Gives cache [] next (GetsAs cache name hour) (Ok hash) → fetch next name.space hash ≡ Ok bytes
-      → WritesAs old new before now (object_reply hash bytes close) result → AnsweredAs old new before now close hour cache (get_ref name) next result
-  got name hash bytes result (made, (object, given), is) there w =
-      let both : Ok bytes ≡ Ok object = sym there ∙ fetched_again cache next name hour hash object made given is in
-      let same : bytes ≡ object = cc in
-      answered (get_ref name) (object_reply hash object close) result (Ok (hash, object), made, given, refl, is) (subst (λ (b : List ℕ). WritesAs old new before now (object_reply hash b close) result) same w)
+-- a look-up ends in no fault of a disk
+pub whole_sure : (cache : Cache) (steps : List Step) (space : List ℕ) (hash : IoHash) (answer : Result Opened StoreFault) → broken_by steps ≡ None → (answer ≡ Err faults.NoMemory) ⊎ (whole answer ≡ unless_broken steps (serve cache space hash))
+    → whole answer ≡ Err DiskFailed → ⊥
+whole_sure cache steps space hash answer unbroken given e = elim given [
+  | inl none ↦ let both : ◌≡◌ {A = Result (List ℕ) StoreFault} (Err faults.NoMemory) (Err DiskFailed) = sym (ap (λ (r : Result Opened StoreFault). whole r) none) ∙ e in cc
+  | inr is ↦ no_disk (serve cache space hash) (is_of_blobs cache space hash) (sym (is ∙ ap (λ (b : Option ℕ). broken_or b (serve cache space hash)) unbroken) ∙ e)
+]
+
+fetched_store : (store next : OpenStore) (made : Option Entry) → made ≡ None → next ≡ store_after store [] made → next ≡ store
+fetched_store store next made none is = is ∙ ap (λ (m : Option Entry). store_after store [] m) none
+
+module _ (close : Bool) (hour : ℕ) (store : OpenStore) (space : List ℕ) (hash : IoHash) where
+  abbrev got_bytes : Result (List ℕ) StoreFault
+  got_bytes = serve store.cache space hash
+
+  -- a look-up is answered
+  pub fetch_answers : (damaged : Bool) (text : List ℕ) (next : OpenStore) → replies.Gives damaged store [] (FetchAs got_bytes) (fetch_reply hash close) text next → Answers damaged close hour store (get_blob space hash) text next
+  fetch_answers damaged text next (answer, made, (same, none), is, store_next, told) =
+      (is ∙ ap (fetch_reply hash close) same, fetched_store store next made none store_next, told ∙ ap (λ (r : Result (List ℕ) StoreFault). says_damaged r) same)
+
+  pub fetch_changes : (next : OpenStore) → replies.Makes store [] (FetchAs got_bytes) next → Changes hour store (get_blob space hash) next
+  fetch_changes next (value, entry, (_, none), _) = absurd (cc)

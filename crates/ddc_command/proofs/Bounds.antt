@@ -9,7 +9,7 @@ use Rattle.ddc_names.specs.declared.reference.RefName.{RefName}
 use Rattle.ddc_protocol.specs.declared.form.Form.{Form}
 use Rattle.ddc_protocol.specs.declared.form.Form.TheVariants.{GetBlob, GetRef, Finalise}
 use Rattle.ddc_protocol.specs.Fields.{values_of, number, same_text}
-use Rattle.ddc_protocol.specs.Form.{most_blob_bytes, most_object_bytes, within_limit, put_length, put_blob_form, blob_form, put_ref_form, ref_form, finalise_form, refs_form, target_form, form, form_of, space_and_hash, ref_named, ref_and_hash, is_empty, is_of_type, is_without_body}
+use Rattle.ddc_protocol.specs.Form.{most_blob_bytes, most_object_bytes, within_limit, put_length, put_blob_form, blob_form, put_ref_form, ref_form, finalise_form, refs_form, target_form, form_of, space_and_hash, ref_named, ref_and_hash, is_empty, is_of_type, is_without_body}
 use Rattle.ddc_model.specs.Limits.{most_bytes}
 use Rattle.ddc_protocol.specs.Requests.{Item, Asks, stores, mismatches, fetches, puts, breaks, reads, finalises, Spells, body_length}
 use Rattle.ddc_command.specs.Replies.{Fits}

@@ -3,5 +3,14 @@ pub mod Answering
 pub mod Turning
 pub mod Bounds
 pub mod Runs
+pub mod Changing
+pub mod Crashes
 pub mod Noting
+pub mod Numbers
 pub mod Statuses
+pub mod Opened
+pub mod Unopened
+pub mod Replaying
+pub mod Spaces
+pub mod Making
+pub mod Finding

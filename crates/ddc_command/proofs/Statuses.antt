@@ -1,42 +1,63 @@
--- What each status says of how a session ended.
-use Rattle.std.proofs.Common.{◌≡◌, ℕ, List, [], ◌∷◌, ◌++◌, codes, refl, ◌∙◌, subst, append-nil, arith, Option, Some, None, inl, inr}
-use Rattle.std.specs.Io.KnownBytes.{Keeps, Appends, IsAtEnd}
-use Rattle.ddc_protocol.specs.Requests.{End, closed, cut, unread, spent}
-use Rattle.ddc_model.specs.Sound.{Cache}
+-- Which ends have the statuses 1 and 2.
+use Rattle.std.proofs.Common.{◌≡◌, ◌≢◌, ℕ, refl, arith}
+use Rattle.ddc_book.specs.declared.fault.OpenFault.{OpenFault}
+use Rattle.ddc_book.specs.declared.fault.OpenFault.TheVariants as open_faults
+use Rattle.ddc_model.specs.declared.fault.StoreFault.{StoreFault}
+use Rattle.ddc_model.specs.declared.fault.StoreFault.TheVariants as faults
 use Rattle.ddc_command.specs.declared.session.Served.{Served}
-use Rattle.ddc_command.specs.declared.session.Served.TheVariants.{Closed, Unread, Cut, Spent, ReadFailed, WriteFailed, NoMemory}
-use Rattle.ddc_command.specs.Session.{Whole, Serves}
-use Rattle.ddc_command.specs.Top.{Noted, IsBad, unread_end, cut_end, spent_end, status_of, note_of, bad_note}
+use Rattle.ddc_command.specs.declared.session.Served.TheVariants.{Closed, Unread, Cut, Spent, ReadFailed, WriteFailed, DiskFailed, Damaged, NoMemory}
+use Rattle.ddc_command.specs.Top.{open_status, served_status, refused_status}
 
-appends_nothing : (old new : Option (List ℕ)) → Appends old new [] → Keeps old new
-appends_nothing None new h = tt
-appends_nothing (Some x) None h = absurd h
-appends_nothing (Some x) (Some y) h = h ∙ append-nil x
+pub open_not_1 : (fault : OpenFault) → open_status fault ≢ 1
+open_not_1 open_faults.NotMade e = omega (arith, e)
+open_not_1 (open_faults.Corrupt file at) e = omega (arith, e)
+open_not_1 (open_faults.BadVersion found) e = omega (arith, e)
+open_not_1 (open_faults.Unsound name) e = omega (arith, e)
+open_not_1 open_faults.DiskFailed e = omega (arith, e)
+open_not_1 open_faults.NoMemory e = omega (arith, e)
 
-no_front : (front back : List ℕ) → [] ≡ front ++ back → front ≡ []
-no_front [] back e = refl
-no_front (x ∷ front) back e = cc
+pub served_not_1 : (served : Served) → served_status served ≢ 1
+served_not_1 Closed e = omega (arith, e)
+served_not_1 (Unread at) e = omega (arith, e)
+served_not_1 (Cut at) e = omega (arith, e)
+served_not_1 (Spent at) e = omega (arith, e)
+served_not_1 ReadFailed e = omega (arith, e)
+served_not_1 WriteFailed e = omega (arith, e)
+served_not_1 DiskFailed e = omega (arith, e)
+served_not_1 Damaged e = omega (arith, e)
+served_not_1 NoMemory e = omega (arith, e)
 
-notes_nothing : (old new : Option (List ℕ)) (before now : ℕ) → Noted old new before now [] → Keeps old new
-notes_nothing old new before now (inl h) = appends_nothing old new h
-notes_nothing old new before now (inr ((front, back, split, wrote), rose)) = appends_nothing old new (subst (Appends old new) (no_front front back split) wrote)
+pub served_not_2 : (served : Served) → served_status served ≢ 2
+served_not_2 Closed e = omega (arith, e)
+served_not_2 (Unread at) e = omega (arith, e)
+served_not_2 (Cut at) e = omega (arith, e)
+served_not_2 (Spent at) e = omega (arith, e)
+served_not_2 ReadFailed e = omega (arith, e)
+served_not_2 WriteFailed e = omega (arith, e)
+served_not_2 DiskFailed e = omega (arith, e)
+served_not_2 Damaged e = omega (arith, e)
+served_not_2 NoMemory e = omega (arith, e)
 
-pub done : (clock : Option ℕ) (input left old new quiet told : Option (List ℕ)) (before now : ℕ) (cache : Cache) (served : Served) → Serves clock input left old new cache served → Noted quiet told before now (note_of served) → status_of served ≡ 0
-    → IsAtEnd left × Keeps quiet told × ((at : ℕ) × Whole clock input old new cache at closed)
-done clock input left old new quiet told before now cache Closed (at, whole, end) note e = (end, notes_nothing quiet told before now note, (at, whole))
-done clock input left old new quiet told before now cache (Unread at) h note e = absurd (omega (arith, e))
-done clock input left old new quiet told before now cache (Cut at) h note e = absurd (omega (arith, e))
-done clock input left old new quiet told before now cache (Spent at) h note e = absurd (omega (arith, e))
-done clock input left old new quiet told before now cache ReadFailed h note e = absurd (omega (arith, e))
-done clock input left old new quiet told before now cache WriteFailed h note e = absurd (omega (arith, e))
-done clock input left old new quiet told before now cache NoMemory h note e = absurd (omega (arith, e))
+pub refused_not_1 : (fault : StoreFault) → refused_status fault ≢ 1
+refused_not_1 (faults.Broken count) e = omega (arith, e)
+refused_not_1 faults.UnknownSpace e = omega (arith, e)
+refused_not_1 faults.NotFound e = omega (arith, e)
+refused_not_1 faults.NotFinalised e = omega (arith, e)
+refused_not_1 faults.NotPending e = omega (arith, e)
+refused_not_1 (faults.Full what limit) e = omega (arith, e)
+refused_not_1 (faults.HistoryFull entries links) e = omega (arith, e)
+refused_not_1 faults.NoMemory e = omega (arith, e)
+refused_not_1 faults.DiskFailed e = omega (arith, e)
+refused_not_1 (faults.Damaged name found) e = omega (arith, e)
 
-pub bad : (clock : Option ℕ) (input left old new quiet told : Option (List ℕ)) (before now : ℕ) (cache : Cache) (served : Served) → Serves clock input left old new cache served → Noted quiet told before now (note_of served) → status_of served ≡ 3
-    → (at : ℕ) × (end : End) × (code : List ℕ) × IsBad end code × Whole clock input old new cache at end × Noted quiet told before now (bad_note at code)
-bad clock input left old new quiet told before now cache Closed h note e = absurd (omega (arith, e))
-bad clock input left old new quiet told before now cache (Unread at) h note e = (at, unread, codes "unread", unread_end, h, note)
-bad clock input left old new quiet told before now cache (Cut at) h note e = (at, cut, codes "cut", cut_end, h, note)
-bad clock input left old new quiet told before now cache (Spent at) h note e = (at, spent, codes "too_many_requests", spent_end, h, note)
-bad clock input left old new quiet told before now cache ReadFailed h note e = absurd (omega (arith, e))
-bad clock input left old new quiet told before now cache WriteFailed h note e = absurd (omega (arith, e))
-bad clock input left old new quiet told before now cache NoMemory h note e = absurd (omega (arith, e))
+pub refused_not_2 : (fault : StoreFault) → refused_status fault ≢ 2
+refused_not_2 (faults.Broken count) e = omega (arith, e)
+refused_not_2 faults.UnknownSpace e = omega (arith, e)
+refused_not_2 faults.NotFound e = omega (arith, e)
+refused_not_2 faults.NotFinalised e = omega (arith, e)
+refused_not_2 faults.NotPending e = omega (arith, e)
+refused_not_2 (faults.Full what limit) e = omega (arith, e)
+refused_not_2 (faults.HistoryFull entries links) e = omega (arith, e)
+refused_not_2 faults.NoMemory e = omega (arith, e)
+refused_not_2 faults.DiskFailed e = omega (arith, e)
+refused_not_2 (faults.Damaged name found) e = omega (arith, e)

@@ -1,25 +1,32 @@
 -- What one turn does, by what its parts do.
-use Rattle.std.proofs.Common.{◌≡◌, ℕ, ◌≤◌, List, [], Bool, Option, Some, None, Result, Ok, Err, IfSome, refl, sym, append-nil, inl, inr, arith}
+use Rattle.std.proofs.Common.{ℕ, List, [], Bool, false, Option, Some, None, Result, Ok, Err, refl, sym, append-nil, inl, inr, arith}
 use Rattle.std.specs.Io.KnownBytes.{Appends}
-use Rattle.ddc_names.specs.declared.hash.IoHash.{IoHash}
-use Rattle.ddc_model.specs.Sound.{Cache}
 use Rattle.ddc_protocol.specs.Requests.{Item}
 use Rattle.ddc_http.specs.Reader.{Takes}
 use Rattle.ddc_http.specs.declared.reply.WriteFault.{WriteFault}
-use Rattle.ddc_http.specs.declared.reply.WriteFault.TheVariants.{Failed, NoMemory}
-use Rattle.ddc_command.specs.Replies.{Answers, Tells, Replies}
-use Rattle.ddc_command.specs.Session.{TurnAs, turn_of, StartsAs, FirstReplies}
-use Rattle.ddc_command.specs.Writes.{WritesAs, AnsweredAs}
-use Rattle.ddc_command.proofs.Answering.{answered}
+use Rattle.ddc_http.specs.declared.reply.WriteFault.TheVariants.{Failed}
+use Rattle.ddc_http.specs.declared.reply.WriteFault.TheVariants as write_faults
+use Rattle.ddc_command.specs.declared.session.Served.TheVariants.{Closed, Unread, Cut, Spent, ReadFailed, WriteFailed, DiskFailed, Damaged, NoMemory}
+use Rattle.ddc_command.specs.declared.session.Turn.{Turn}
+use Rattle.ddc_command.specs.declared.session.Turn.TheVariants.{Answered, Ended}
+use Rattle.ddc_command.specs.Replies.{OpenStore, Answers, Tells}
+use Rattle.ddc_command.specs.Session.{TurnAs, StartsAs, FirstReplies}
+use Rattle.ddc_command.specs.Writes.{WritesAs, TurnsAs, written_turn}
 
--- a request that was read, and answered at this hour
-pub turn_answered : (told : Option ℕ) (before now left : Option (List ℕ)) (from to : ℕ) (close : Bool) (old new : Option (List ℕ)) (risen_from risen_to : ℕ) (cache next : Cache) (item : Item) (hour : ℕ) (result : Result (Unit {0}) WriteFault)
-    → Tells told hour → Takes before now from to item → AnsweredAs old new risen_from risen_to close hour cache item next result → TurnAs told before now left from to close old new cache next (turn_of result)
-turn_answered told before now left from to close old new risen_from risen_to cache next item hour (Ok u) tells takes a =
-    let (text, answers, wrote) = a.answered in (item, text, takes, (hour, tells, answers), wrote)
-turn_answered told before now left from to close old new risen_from risen_to cache next item hour (Err Failed) tells takes a =
-    let (text, after, answers, wrote, rose) = a.answered in inl (item, text, after, takes, (hour, tells, answers), wrote)
-turn_answered told before now left from to close old new risen_from risen_to cache next item hour (Err NoMemory) tells takes a = a.answered
+module _ (told : Option ℕ) (before now left : Option (List ℕ)) (from to : ℕ) (close : Bool) (old new : Option (List ℕ)) (store next : OpenStore) (item : Item) (takes : Takes before now from to item) where
+  -- a request that was read, and answered at this hour
+  pub turn_answered : (hour : ℕ) (turn : Turn) → Tells told hour → TurnsAs old new close hour store item next turn → TurnAs told before now left from to close old new store next turn
+  turn_answered hour Answered tells (text, answers, wrote) = (text, (item, takes, (hour, tells, answers)), wrote)
+  turn_answered hour (Ended Closed) tells h = absurd h
+  turn_answered hour (Ended (Unread at)) tells h = absurd h
+  turn_answered hour (Ended (Cut at)) tells h = absurd h
+  turn_answered hour (Ended (Spent at)) tells h = absurd h
+  turn_answered hour (Ended ReadFailed) tells h = absurd h
+  turn_answered hour (Ended WriteFailed) tells (damaged, text, answers, wrote) = inl (damaged, text, (item, takes, (hour, tells, answers)), wrote)
+  turn_answered hour (Ended DiskFailed) tells (changes, wrote) = (item, takes, (hour, tells, changes), wrote)
+  turn_answered hour (Ended Damaged) tells (text, answers, wrote) = (text, (item, takes, (hour, tells, answers)), wrote)
+  turn_answered hour (Ended NoMemory) tells (kept, inl same) = (kept, inl same)
+  turn_answered hour (Ended NoMemory) tells (kept, inr (text, answers)) = (kept, inr (text, (item, takes, (hour, tells, answers))))
 
 -- an hour that a clock tells, where it tells one
 abbrev an_hour : Option ℕ → ℕ
@@ -31,20 +38,22 @@ is_told (Some hour) = refl
 is_told None = tt
 
 -- a request that was faulty, and answered with this text
-pub turn_refused : (told : Option ℕ) (before now left : Option (List ℕ)) (from to : ℕ) (close : Bool) (old new : Option (List ℕ)) (risen_from risen_to : ℕ) (cache : Cache) (item : Item) (text : List ℕ) (result : Result (Unit {0}) WriteFault)
-    → ((hour : ℕ) → Answers close hour cache item text cache) → Takes before now from to item → WritesAs old new risen_from risen_to text result → TurnAs told before now left from to close old new cache cache (turn_of result)
-turn_refused told before now left from to close old new risen_from risen_to cache item text result answers takes w =
-    turn_answered told before now left from to close old new risen_from risen_to cache cache item (an_hour told) result (is_told told) takes
-    (answered old new risen_from risen_to close (an_hour told) cache cache item text result (answers (an_hour told)) w)
+pub turn_refused : (told : Option ℕ) (before now left : Option (List ℕ)) (from to : ℕ) (close : Bool) (old new : Option (List ℕ)) (risen_from risen_to : ℕ) (store : OpenStore) (item : Item) (text : List ℕ) (result : Result (Unit {0}) WriteFault)
+    → ((hour : ℕ) → Answers false close hour store item text store) → Takes before now from to item → WritesAs old new risen_from risen_to text result → TurnAs told before now left from to close old new store store (written_turn result)
+turn_refused told before now left from to close old new risen_from risen_to store item text (Ok u) answers takes w =
+    (text, (item, takes, (an_hour told, is_told told, answers (an_hour told))), w.wrote)
+turn_refused told before now left from to close old new risen_from risen_to store item text (Err Failed) answers takes w =
+    inl (false, text, (item, takes, (an_hour told, is_told told, answers (an_hour told))), w.wrote.0)
+turn_refused told before now left from to close old new risen_from risen_to store item text (Err write_faults.NoMemory) answers takes w = (w.wrote, inl refl)
 
-starts_nothing : (input : Option (List ℕ)) → StartsAs input []
+pub starts_nothing : (input : Option (List ℕ)) → StartsAs input []
 starts_nothing None = tt
 starts_nothing (Some bytes) = (bytes, refl)
 
-appends_none : (old : Option (List ℕ)) → Appends old old []
+pub appends_none : (old : Option (List ℕ)) → Appends old old []
 appends_none None = tt
 appends_none (Some text) = sym (append-nil text)
 
 -- a session that answers nothing
-pub no_replies : (told : Option ℕ) (input old : Option (List ℕ)) (cache : Cache) → FirstReplies told input old old cache
-no_replies told input old cache = ([], [], omega arith, starts_nothing input, (cache, (refl, refl)), appends_none old)
+pub no_replies : (told : Option ℕ) (input old : Option (List ℕ)) (store : OpenStore) → FirstReplies told input old old store store
+no_replies told input old store = ([], appends_none old, inl ([], record { begins = starts_nothing input; few = omega arith; runs = (refl, refl) }))

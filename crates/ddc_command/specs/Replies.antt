@@ -5,7 +5,7 @@ use Rattle.ddc_model.specs.declared.entry.Entry.{Entry}
 use Rattle.ddc_model.specs.declared.fault.StoreFault.{StoreFault}
 use Rattle.ddc_model.specs.declared.fault.StoreFault.TheVariants.{Broken, UnknownSpace, NotFound, NotFinalised, NotPending, Full, HistoryFull, NoMemory, DiskFailed, Damaged}
 use Rattle.ddc_model.specs.Limits.{most_bytes}
-use Rattle.ddc_model.specs.Content.{Content, named}
+use Rattle.ddc_model.specs.Content.{named}
 use Rattle.ddc_model.specs.Sound.{Cache}
 use Rattle.ddc_model.specs.Commands.{UploadAs, PutAs, FinaliseAs, changed}
 use Rattle.ddc_model.specs.History.{Past, none_yet, with_entry, WithRoom}
@@ -32,9 +32,9 @@ store_after store bytes made = record { cache = changed store.cache bytes made; 
 -- ---- the texts
 
 -- the reply to an upload
-abbrev pub upload_reply : Content → Bool → Result (Unit {0}) StoreFault → List ℕ
-upload_reply content close (Ok u) = json_reply 200 (identifier_body (named content.bytes)) close
-upload_reply content close (Err fault) = fault_reply fault close
+abbrev pub upload_reply : IoHash → Bool → Result (Unit {0}) StoreFault → List ℕ
+upload_reply hash close (Ok u) = json_reply 200 (identifier_body hash) close
+upload_reply hash close (Err fault) = fault_reply fault close
 
 -- to a put, and to the finalising of a reference
 abbrev pub needs_reply : Bool → Result (List IoHash) StoreFault → List ℕ
@@ -78,7 +78,7 @@ Gives {A} damaged store bytes Command reply text next =
 -- the text of the reply to an item at this hour, and the store behind it
 abbrev pub Answers : Bool → Bool → ℕ → OpenStore → Item → List ℕ → OpenStore → Type 0
 Answers damaged close hour store (put_blob space content) text next =
-    Gives damaged store content.bytes (WithRoom store.cache.index store.past (UploadAs store.cache.index space content hour)) (upload_reply content close) text next
+    Gives damaged store content.bytes (WithRoom store.cache.index store.past (UploadAs store.cache.index space content hour)) (upload_reply (named content.bytes) close) text next
 Answers damaged close hour store (get_blob space hash) text next =
     (text ≡ fetch_reply hash close (serve store.cache space hash)) × (next ≡ store) × (damaged ≡ says_damaged (serve store.cache space hash))
 Answers damaged close hour store (put_ref name content) text next =

@@ -1,5 +1,5 @@
 -- What a session writes and leaves, by what it reads.
-use Rattle.std.specs.Prelude.{◌≡◌, ◌⊎◌, ℕ, ◌≤◌, Bool, true, false, IsTrue, List, [], ◌∷◌, ◌++◌, length, Option, IfSome}
+use Rattle.std.specs.Prelude.{◌≡◌, ◌⊎◌, ℕ, ◌≤◌, Bool, true, false, List, [], ◌∷◌, ◌++◌, length, Option, IfSome}
 use Rattle.std.specs.Io.KnownBytes.{Keeps, Appends, Consumes, IsAtEnd}
 use Rattle.ddc_link.specs.Writes.{AppendsFront}
 use Rattle.ddc_disk.specs.Disk.{Timeline, EachImage}
@@ -15,7 +15,8 @@ use Rattle.ddc_http.specs.Reader.{Takes, LosesPart}
 use Rattle.ddc_command.specs.declared.session.Served.{Served}
 use Rattle.ddc_command.specs.declared.session.Served.TheVariants.{Closed, Unread, Cut, Spent, ReadFailed, WriteFailed, DiskFailed, Damaged, NoMemory}
 use Rattle.ddc_command.specs.declared.session.Turn.{Turn}
-use Rattle.ddc_command.specs.declared.session.Turn.TheVariants.{Answered, Ended}
+use Rattle.ddc_command.specs.declared.session.Turn.TheVariants.{Ended}
+use Rattle.ddc_command.specs.declared.session.Turn.TheVariants as turns
 use Rattle.ddc_command.specs.Replies.{OpenStore, AnswersAt, ChangesAt, Runs, last_text}
 
 -- a book as a stream sees it
@@ -34,7 +35,7 @@ TakesAs told before now from to damaged close store next text = (item : Item) ×
 
 -- One turn, by the clock, the bytes ahead before and after it, what the source has left, the places, what was written, and the store
 abbrev pub TurnAs : Option ℕ → Option (List ℕ) → Option (List ℕ) → Option (List ℕ) → ℕ → ℕ → Bool → Option (List ℕ) → Option (List ℕ) → OpenStore → OpenStore → Turn → Type 0
-TurnAs told before now left from to close old new store next Answered = (text : List ℕ) × TakesAs told before now from to false close store next text × Appends old new text
+TurnAs told before now left from to close old new store next turns.Answered = (text : List ℕ) × TakesAs told before now from to false close store next text × Appends old new text
 TurnAs told before now left from to close old new store next (Ended Closed) = IfSome before (λ bytes. bytes ≡ []) × IsAtEnd left × Keeps old new × (next ≡ store)
 TurnAs told before now left from to close old new store next (Ended (Unread at)) = IfSome before IsUnread × (at ≡ from) × Appends old new unread_reply × (next ≡ store)
 TurnAs told before now left from to close old new store next (Ended (Cut at)) = IfSome before IsCut × (at ≡ from) × Keeps old new × (next ≡ store)

@@ -20,7 +20,8 @@ use Rattle.ddc_model.specs.Limits.{standard}
 use Rattle.ddc_model.specs.Sound.{Cache, empty_cache, AreWhole}
 use Rattle.ddc_model.specs.Commands.{SpaceAs, changed}
 use Rattle.ddc_book.specs.Opening.{Holds, Opens, OpenFaultOf}
-use Rattle.ddc_book.specs.Loading.{AsBefore, Creates}
+use Rattle.ddc_book.specs.Loading.{AsBefore, Creates, HasOpened}
+use Rattle.ddc_book.specs.View.{BookView, limits_of, line_of, faults_of}
 use Rattle.ddc_book.specs.declared.fault.OpenFault.{OpenFault}
 use Rattle.ddc_book.specs.declared.fault.OpenFault.TheVariants.{NotMade, Corrupt, BadVersion, Unsound}
 use Rattle.ddc_book.specs.declared.fault.OpenFault.TheVariants as open_faults
@@ -56,11 +57,20 @@ unopened_note cause = codes "ddc: cannot open store: " ++ cause ++ codes "\n"
 abbrev pub reference_text : RefName → List ℕ
 reference_text name = (name.space ++ codes "/") ++ (name.spot.bucket ++ codes "/") ++ hash_text (record { 0 = name.spot.key.0 })
 
+-- what is told of the bytes of a store that can't be opened
+abbrev pub open_cause : OpenFault → List ℕ
+open_cause NotMade = codes "not made"
+open_cause (Corrupt file at) = (codes "corrupt file " ++ decimal file) ++ (codes " at " ++ decimal at)
+open_cause (BadVersion found) = codes "version " ++ decimal found
+open_cause (Unsound name) = codes "unsound " ++ reference_text name
+open_cause open_faults.DiskFailed = []
+open_cause open_faults.NoMemory = []
+
 abbrev pub open_note : OpenFault → List ℕ
-open_note NotMade = unopened_note (codes "not made")
-open_note (Corrupt file at) = unopened_note ((codes "corrupt file " ++ decimal file) ++ (codes " at " ++ decimal at))
-open_note (BadVersion found) = unopened_note (codes "version " ++ decimal found)
-open_note (Unsound name) = unopened_note (codes "unsound " ++ reference_text name)
+open_note NotMade = unopened_note (open_cause NotMade)
+open_note (Corrupt file at) = unopened_note (open_cause (Corrupt file at))
+open_note (BadVersion found) = unopened_note (open_cause (BadVersion found))
+open_note (Unsound name) = unopened_note (open_cause (Unsound name))
 open_note open_faults.DiskFailed = disk_note
 open_note open_faults.NoMemory = no_memory_note
 
@@ -300,3 +310,42 @@ Ends scene words Made =
 Ends scene words Untold =
     (space : List ℕ) × (ttl : ℕ) × (pin : ℕ) × (form_of words ≡ Some (init space ttl pin)) × (start : Cache) × (made : Option Entry)
     × Makes scene space ttl pin start (Ok tt) made × LeavesAfter scene start made × AppendsFront scene.from scene.to (made_line space ttl pin) × Rose scene.writes_before scene.writes_now
+
+-- ---- its parts
+
+-- what a command of this form does, whatever words ask for it
+abbrev pub EndsFor : {D : Type 0} → Scene D → Form → Ended → Type 0
+EndsFor scene form ended = (words : List (String Global)) → form_of words ≡ Some form → Ends scene words ended
+
+abbrev pub EndsReplay : {D : Type 0} → Scene D → Ended → Type 0
+EndsReplay scene ended = EndsFor scene replay ended
+
+-- what `init` does, whatever words ask for it, and whatever the clock and the source are
+abbrev pub EndsInit : {D : Type 0} → Bool → (D → Meaning) → Devices D → Devices D → Option (List ℕ) → Option (List ℕ) → ℕ → ℕ → List ℕ → ℕ → ℕ → Ended → Type 0
+EndsInit tells meaning old new from to before now space ttl pin ended =
+    (words : List (String Global)) (hour : Option ℕ) (input left : Option (List ℕ)) (reads reads_now : ℕ) → form_of words ≡ Some (init space ttl pin)
+    → Ends (record { tells = tells; meaning = meaning; old = old; new = new; hour = hour; input = input; left = left; from = from; to = to;
+      reads_before = reads; reads_now = reads_now; writes_before = before; writes_now = now }) words ended
+
+abbrev pub is_unmade : OpenFault → Bool
+is_unmade NotMade = true
+is_unmade (Corrupt file at) = false
+is_unmade (BadVersion found) = false
+is_unmade (Unsound name) = false
+is_unmade open_faults.DiskFailed = false
+is_unmade open_faults.NoMemory = false
+
+-- why there is no store in which `init` makes a namespace
+pub record FailsToOpen {D : Type 0} (tells : Bool) (meaning : D → Meaning) (old new : Devices D) (ended : Ended) : Type 0 where
+  pub ends : (from to : Option (List ℕ)) (before now : ℕ) (space : List ℕ) (ttl pin : ℕ) → EndsInit tells meaning old new from to before now space ttl pin ended
+  pub not_usage : status_of ended ≢ 1
+
+-- a book that was opened just now, of the store that the devices held, or of an empty one where they held none
+pub record Finds {D : Type 0} (tells : Bool) (meaning : D → Meaning) (old : Devices D) (book : BookView D) : Type 0 where
+  pub held : (IfSome (meaning old.first).held (λ file. Holds standard file book.cache) × AreWhole book.cache.index)
+      ⊎ (IfSome (meaning old.first).held (λ file. is_made file ≡ false) × (book.cache ≡ empty_cache standard))
+  pub limits_are : limits_of book ≡ standard
+  pub steps : HasOpened standard book.steps
+  pub later : devices_faults meaning old ≤ faults_of meaning book
+  pub any_moment : IsTrue tells → EachImage (devices_line meaning old) (λ im. Opens standard im book.cache ⊎ IsEmptyUnmade book.cache im)
+      → EachSince (devices_line meaning old) (line_of meaning book) (λ im. Opens standard im book.cache ⊎ IsEmptyUnmade book.cache im)

@@ -1,19 +1,32 @@
 -- The forms of the command line.
-use Rattle.std.specs.Prelude.{ℕ, ◌&&◌, Bool, true, false, List, [], ◌∷◌, length, Option, Some, None, String, string_bytes, codes, nat_eq, nat_le, if◌then◌else◌}
+use Rattle.std.specs.Prelude.{◌≡◌, ℕ, ◌&&◌, Bool, true, false, List, [], ◌∷◌, length, Option, Some, None, String, string_bytes, codes, nat_eq, nat_le, if◌then◌else◌}
 use Rattle.std.specs.Str.{all_ascii_digits}
 use Rattle.std.specs.Str.Parse.{digits_value}
 use Rattle.std.specs.declared.alloc.Global.{Global}
 use lib.Pointwise.{pointwise}
 use Rattle.ddc_names.specs.Texts.{name_fault}
-use Rattle.ddc_command.specs.declared.words.Asked.{Asked}
-use Rattle.ddc_command.specs.declared.words.Asked.TheVariants.{Replay, Init}
+use Rattle.ddc_model.specs.Entries.{is_time}
+use Rattle.ddc_command.specs.declared.form.Asked.{Asked}
+use Rattle.ddc_command.specs.declared.form.Asked.TheVariants.{Replay, Init}
 
 abbrev pub is_word : String Global → List ℕ → Bool
 is_word word text = pointwise nat_eq (string_bytes word) text
 
+-- 1 to 10 digits
+abbrev pub are_digits : List ℕ → Bool
+are_digits text = nat_le 1 (length text) && nat_le (length text) 10 && all_ascii_digits text
+
+-- the number that they write
+abbrev pub number : List ℕ → Option ℕ
+number text = if are_digits text then Some (digits_value 10 text) else None
+
 -- a number of hours: 1 to 10 digits that write 1 to 1,000,000
 abbrev pub are_hours : List ℕ → Bool
-are_hours text = nat_le 1 (length text) && nat_le (length text) 10 && all_ascii_digits text && nat_le 1 (digits_value 10 text) && nat_le (digits_value 10 text) 1000000
+are_hours text = are_digits text && is_time (digits_value 10 text)
+
+-- the hours that they write
+abbrev pub hours : List ℕ → Option ℕ
+hours text = if are_hours text then Some (digits_value 10 text) else None
 
 -- what words ask for: the requests of a stream are answered, or a namespace is made, with its times in hours
 pub data Form : Type 0 where
@@ -48,3 +61,8 @@ form_of (command ∷ dir ∷ a ∷ b ∷ c ∷ d ∷ words) = None
 abbrev pub form_in : Asked → Form
 form_in Replay = replay
 form_in (Init space ttl pin) = init space ttl pin
+
+-- the times that were asked for
+abbrev pub AreTimes : Asked → Type 0
+AreTimes Replay = Unit {0}
+AreTimes (Init space ttl pin) = (is_time ttl ≡ true) × (is_time pin ≡ true)

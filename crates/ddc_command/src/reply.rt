@@ -1,15 +1,19 @@
 // The replies to requests.
-ghost use Rattle.std.specs.Prelude.{◌≡◌, ◌++◌, IsSome, false, true};
+ghost use Rattle.std.specs.Prelude.{◌≡◌, ◌++◌, ℕ, IsSome, None, false, true};
 ghost use Rattle.http.specs.StatusCode.{reason_phrase};
 ghost use Rattle.ddc_model.specs.declared.fault.StoreFault.{StoreFault};
-ghost use Rattle.ddc_model.specs.Commands.{fetch};
+ghost use Rattle.ddc_model.specs.History.{broken_by};
+ghost use Rattle.ddc_book.specs.Calls.{got, whole};
 ghost use Rattle.ddc_protocol.specs.Replies.{json_reply, blob_reply, object_reply, identifier_body, needs_body, error_body, damaged_body, fault_reply};
 ghost use Rattle.ddc_http.specs.Heads.{text_of, code_text, IsAnswered, fault_text};
 ghost use Rattle.ddc_http.specs.Reader.{asked};
 ghost use Rattle.ddc_protocol.specs.Requests.{put_blob, get_blob, put_ref, get_ref, finalise};
-ghost use Rattle.ddc_command.specs.Replies.{needs_reply, fetch_reply, Fits};
-ghost use Rattle.ddc_command.specs.Writes.{WritesAs, AnsweredAs};
+ghost use Rattle.ddc_command.specs.Replies.{upload_reply, needs_reply, get_reply, fetch_reply, Fits};
+ghost use Rattle.ddc_command.specs.Writes.{WritesAs, AnswersAs, written_turn, damaged_turn, turn_of};
 
+use crate::session::{Served, Turn};
+use ddc_book::{Book, Held, Opened};
+use ddc_disk::Disk;
 use ddc_http::{
     Ask, ErrorCode, Head, HttpFault, Kind, Request, WriteFault, damaged_body, error_body,
     fault_body, full_body, history_full_body, identifier_body, needs_body, write_head,
@@ -18,7 +22,6 @@ use ddc_link::{Sink, put_all};
 use ddc_model::{StoreFault, What};
 use ddc_names::{IoHash, Namespace, RefName, Rows};
 use ddc_state::Checked;
-use memory_store::Store;
 use std::alloc::Global;
 
 // Writes a head and its body.
@@ -214,126 +217,207 @@ fn write_refusal<W: Sink>(
     }
 }
 
-fn write_listed<W: Sink>(
+fn write_uploaded<W: Sink>(
     alloc: Global,
     sink: &mut W,
-    answer: Result<Rows<IoHash>, StoreFault>,
+    hash: IoHash,
+    answer: &Result<(), StoreFault>,
     close: bool,
 ) -> Result<(), WriteFault>
-    ensures gives { WritesAs (W.written sink.old) (W.written sink.new) (W.faults sink.old) (W.faults sink.new) (needs_reply close answer) result }
-    ensures memory { answer ≡ Err StoreFault.NoMemory → result ≡ Err WriteFault.NoMemory }
+    ensures gives { WritesAs (W.written sink.old) (W.written sink.new) (W.faults sink.old) (W.faults sink.new) (upload_reply hash close answer.now) result }
+    ensures memory { answer.now ≡ Err StoreFault.NoMemory → result ≡ Err WriteFault.NoMemory }
 {
     match answer {
-        Ok(needs) => write_needs(alloc, sink, needs.as_slice(), close),
-        Err(fault) => write_refusal(alloc, sink, fault, close),
+        Ok(()) => write_identifier(alloc, sink, hash, close),
+        Err(fault) => write_refusal(alloc, sink, *fault, close),
     }
 }
 
-fn answer_upload<W: Sink>(
+fn write_listed<W: Sink>(
     alloc: Global,
-    store: &mut Store,
+    sink: &mut W,
+    answer: &Result<Rows<IoHash>, StoreFault>,
+    close: bool,
+) -> Result<(), WriteFault>
+    ensures gives { WritesAs (W.written sink.old) (W.written sink.new) (W.faults sink.old) (W.faults sink.new) (needs_reply close answer.now) result }
+    ensures memory { answer.now ≡ Err StoreFault.NoMemory → result ≡ Err WriteFault.NoMemory }
+{
+    match answer {
+        Ok(needs) => write_needs(alloc, sink, needs.as_slice(), close),
+        Err(fault) => write_refusal(alloc, sink, *fault, close),
+    }
+}
+
+fn write_held<W: Sink>(
+    alloc: Global,
+    sink: &mut W,
+    answer: &Result<Held, StoreFault>,
+    close: bool,
+) -> Result<(), WriteFault>
+    ensures gives { WritesAs (W.written sink.old) (W.written sink.new) (W.faults sink.old) (W.faults sink.new) (get_reply close (got answer.now)) result }
+    ensures memory { answer.now ≡ Err StoreFault.NoMemory → result ≡ Err WriteFault.NoMemory }
+{
+    match answer {
+        Ok(held) => write_object(alloc, sink, held.hash, held.bytes.as_slice(), close),
+        Err(fault) => write_refusal(alloc, sink, *fault, close),
+    }
+}
+
+fn write_opened<W: Sink>(
+    alloc: Global,
+    sink: &mut W,
+    hash: IoHash,
+    answer: &Result<Opened, StoreFault>,
+    close: bool,
+) -> Result<(), WriteFault>
+    ensures gives { WritesAs (W.written sink.old) (W.written sink.new) (W.faults sink.old) (W.faults sink.new) (fetch_reply hash close (whole answer.now)) result }
+    ensures memory { answer.now ≡ Err StoreFault.NoMemory → result ≡ Err WriteFault.NoMemory }
+{
+    match answer {
+        Ok(Opened::Whole(bytes)) => write_blob(alloc, sink, hash, bytes.as_slice(), close),
+        Err(fault) => write_refusal(alloc, sink, *fault, close),
+    }
+}
+
+/// How a turn goes on once its reply was written, or not.
+pub fn written_turn(written: Result<(), WriteFault>) -> Turn
+    ensures { result ≡ written_turn written }
+{
+    match written {
+        Ok(()) => Turn::Answered,
+        Err(WriteFault::Failed) => Turn::Ended(Served::WriteFailed),
+        Err(WriteFault::NoMemory) => Turn::Ended(Served::NoMemory),
+    }
+}
+
+// A damaged blob ends the session, also where its reply can't be made.
+fn damaged_turn(written: Result<(), WriteFault>) -> Turn
+    ensures { result ≡ damaged_turn written }
+{
+    match written {
+        Err(WriteFault::Failed) => Turn::Ended(Served::WriteFailed),
+        _ => Turn::Ended(Served::Damaged),
+    }
+}
+
+// How a turn goes on after this answer of the store. A disk that failed ends the session, whatever becomes of the reply.
+fn turn_of<T>(answer: &Result<T, StoreFault>, written: Result<(), WriteFault>) -> Turn
+    ensures { result ≡ turn_of answer.now written }
+{
+    match answer {
+        Err(StoreFault::DiskFailed) => Turn::Ended(Served::DiskFailed),
+        Err(StoreFault::Damaged { .. }) => damaged_turn(written),
+        _ => written_turn(written),
+    }
+}
+
+fn answer_upload<D: Disk, W: Sink>(
+    alloc: Global,
+    book: &mut Book<D>,
     space: Namespace,
     blob: Checked,
     hour: u32,
     close: bool,
     sink: &mut W,
-) -> Result<(), WriteFault>
-    requires { Fits (put_blob space blob) }
-    ensures gives { AnsweredAs (W.written sink.old) (W.written sink.new) (W.faults sink.old) (W.faults sink.new) close hour store.old (put_blob space blob) store.new result }
+) -> Turn
+    requires unbroken { broken_by book.old.steps ≡ None }
+    requires fits { Fits (put_blob space blob) }
+    ensures gives { AnswersAs D.tells D.meaning (W.written sink.old) (W.written sink.new) (W.faults sink.old) (W.faults sink.new) close hour book.old (put_blob space blob) book.new result }
 {
     let hash = blob.whole().hash();
-    match store.upload(alloc, space, blob, hour) {
-        Ok(()) => write_identifier(alloc, sink, hash, close),
-        Err(fault) => write_refusal(alloc, sink, fault, close),
-    }
+    let answer = book.upload(alloc, space, blob, hour);
+    let written = write_uploaded(alloc, sink, hash, &answer, close);
+    turn_of(&answer, written)
 }
 
-fn answer_put<W: Sink>(
+fn answer_put<D: Disk, W: Sink>(
     alloc: Global,
-    store: &mut Store,
+    book: &mut Book<D>,
     name: RefName,
     object: Checked,
     hour: u32,
     close: bool,
     sink: &mut W,
-) -> Result<(), WriteFault>
-    requires { Fits (put_ref name object) }
-    ensures gives { AnsweredAs (W.written sink.old) (W.written sink.new) (W.faults sink.old) (W.faults sink.new) close hour store.old (put_ref name object) store.new result }
+) -> Turn
+    requires unbroken { broken_by book.old.steps ≡ None }
+    requires fits { Fits (put_ref name object) }
+    ensures gives { AnswersAs D.tells D.meaning (W.written sink.old) (W.written sink.new) (W.faults sink.old) (W.faults sink.new) close hour book.old (put_ref name object) book.new result }
 {
-    let answer = store.put(alloc, name, object, hour);
-    write_listed(alloc, sink, answer, close)
+    let answer = book.put(alloc, name, object, hour);
+    let written = write_listed(alloc, sink, &answer, close);
+    turn_of(&answer, written)
 }
 
-fn answer_finalise<W: Sink>(
+fn answer_finalise<D: Disk, W: Sink>(
     alloc: Global,
-    store: &mut Store,
+    book: &mut Book<D>,
     name: &RefName,
     hash: IoHash,
     hour: u32,
     close: bool,
     sink: &mut W,
-) -> Result<(), WriteFault>
-    ensures gives { AnsweredAs (W.written sink.old) (W.written sink.new) (W.faults sink.old) (W.faults sink.new) close hour store.old (finalise name.now hash) store.new result }
+) -> Turn
+    requires unbroken { broken_by book.old.steps ≡ None }
+    ensures gives { AnswersAs D.tells D.meaning (W.written sink.old) (W.written sink.new) (W.faults sink.old) (W.faults sink.new) close hour book.old (finalise name.now hash) book.new result }
 {
-    let answer = store.finalise(alloc, name, hash, hour);
-    write_listed(alloc, sink, answer, close)
+    let answer = book.finalise(alloc, name, hash, hour);
+    let written = write_listed(alloc, sink, &answer, close);
+    turn_of(&answer, written)
 }
 
-fn answer_get<W: Sink>(
+fn answer_get<D: Disk, W: Sink>(
     alloc: Global,
-    store: &mut Store,
+    book: &mut Book<D>,
     name: &RefName,
     hour: u32,
     close: bool,
     sink: &mut W,
-) -> Result<(), WriteFault>
-    ensures gives { AnsweredAs (W.written sink.old) (W.written sink.new) (W.faults sink.old) (W.faults sink.new) close hour store.old (get_ref name.now) store.new result }
+) -> Turn
+    requires unbroken { broken_by book.old.steps ≡ None }
+    ensures gives { AnswersAs D.tells D.meaning (W.written sink.old) (W.written sink.new) (W.faults sink.old) (W.faults sink.new) close hour book.old (get_ref name.now) book.new result }
 {
-    match store.get_ref(alloc, name, hour) {
-        Ok(hash) => match store.fetch(&name.space, &hash) {
-            Ok(bytes) => write_object(alloc, sink, hash, bytes, close),
-            Err(_) => unreachable!(),
-        },
-        Err(fault) => write_refusal(alloc, sink, fault, close),
-    }
+    let answer = book.get_ref(alloc, name, hour);
+    let written = write_held(alloc, sink, &answer, close);
+    turn_of(&answer, written)
 }
 
-fn answer_fetch<W: Sink>(
+fn answer_fetch<D: Disk, W: Sink>(
     alloc: Global,
-    store: &Store,
+    book: &mut Book<D>,
     space: &Namespace,
     hash: IoHash,
     close: bool,
     sink: &mut W,
-) -> Result<(), WriteFault>
-    ensures gives { WritesAs (W.written sink.old) (W.written sink.new) (W.faults sink.old) (W.faults sink.new) (fetch_reply hash close (fetch store.now space.now hash)) result }
+) -> Turn
+    requires unbroken { broken_by book.old.steps ≡ None }
+    ensures gives { (hour : ℕ) → AnswersAs D.tells D.meaning (W.written sink.old) (W.written sink.new) (W.faults sink.old) (W.faults sink.new) close hour book.old (get_blob space.now hash) book.new result }
 {
-    match store.fetch(space, &hash) {
-        Ok(bytes) => write_blob(alloc, sink, hash, bytes, close),
-        Err(fault) => write_refusal(alloc, sink, fault, close),
-    }
+    let answer = book.open_blob(alloc, space, hash);
+    let written = write_opened(alloc, sink, hash, &answer, close);
+    turn_of(&answer, written)
 }
 
 /// Answers a request at this hour: the change is made, and the whole reply written.
-pub fn answer<W: Sink>(
+pub fn answer<D: Disk, W: Sink>(
     alloc: Global,
-    store: &mut Store,
+    book: &mut Book<D>,
     request: Request,
     hour: u32,
     close: bool,
     sink: &mut W,
-) -> Result<(), WriteFault>
-    requires { Fits (asked request) }
-    ensures gives { AnsweredAs (W.written sink.old) (W.written sink.new) (W.faults sink.old) (W.faults sink.new) close hour store.old (asked request) store.new result }
+) -> Turn
+    requires unbroken { broken_by book.old.steps ≡ None }
+    requires fits { Fits (asked request) }
+    ensures gives { AnswersAs D.tells D.meaning (W.written sink.old) (W.written sink.new) (W.faults sink.old) (W.faults sink.new) close hour book.old (asked request) book.new result }
 {
     let Request { ask } = request;
     match ask {
-        Ask::PutBlob { space, blob } => answer_upload(alloc, store, space, blob, hour, close, sink),
-        Ask::GetBlob { space, hash } => answer_fetch(alloc, store, &space, hash, close, sink),
-        Ask::PutRef { name, object } => answer_put(alloc, store, name, object, hour, close, sink),
-        Ask::GetRef { name } => answer_get(alloc, store, &name, hour, close, sink),
+        Ask::PutBlob { space, blob } => answer_upload(alloc, book, space, blob, hour, close, sink),
+        Ask::GetBlob { space, hash } => answer_fetch(alloc, book, &space, hash, close, sink),
+        Ask::PutRef { name, object } => answer_put(alloc, book, name, object, hour, close, sink),
+        Ask::GetRef { name } => answer_get(alloc, book, &name, hour, close, sink),
         Ask::Finalise { name, hash } => {
-            answer_finalise(alloc, store, &name, hash, hour, close, sink)
+            answer_finalise(alloc, book, &name, hash, hour, close, sink)
         }
     }
 }

@@ -10,7 +10,7 @@ ghost use Rattle.ddc_book.specs.View.{faults_of, limits_of, line_of};
 ghost use Rattle.ddc_http.specs.Stream.{source_of, held_of, place_of, has_ended};
 ghost use Rattle.ddc_command.specs.Session.{store_of, OpensWithin, TurnAs, Serves, Stops};
 
-use crate::reply::{answer, answer_fault};
+use crate::reply::{answer, answer_fault, written_turn};
 use ddc_book::Book;
 use ddc_disk::Disk;
 use ddc_http::{HttpFault, RequestReader, WriteFault};
@@ -74,7 +74,26 @@ fn take_turn<D: Disk, S: Source, W: Sink, C: Clock>(
     ensures write { result ≡ Turn.Ended Served.WriteFailed → Rose (W.faults sink.old) (W.faults sink.new) }
     ensures disk { result ≡ Turn.Ended Served.DiskFailed → Rose (faults_of D.meaning book.old) (faults_of D.meaning book.new) }
 {
-    loop {}
+    match reader.next() {
+        Ok(Some(request)) => answer(alloc, book, request, clock.hour(), close, sink),
+        Ok(None) => Turn::Ended(Served::Closed),
+        Err(HttpFault::Unread) => match answer_fault(alloc, &HttpFault::Unread, true, sink) {
+            Ok(()) => Turn::Ended(Served::Unread(reader.place())),
+            Err(WriteFault::Failed) => Turn::Ended(Served::WriteFailed),
+            Err(WriteFault::NoMemory) => Turn::Ended(Served::NoMemory),
+        },
+        Err(HttpFault::Cut) => Turn::Ended(Served::Cut(reader.place())),
+        Err(HttpFault::ReadFailed) => Turn::Ended(Served::ReadFailed),
+        Err(HttpFault::NoMemory) => Turn::Ended(Served::NoMemory),
+        Err(HttpFault::HashMismatch { named, found }) => {
+            let fault = HttpFault::HashMismatch { named, found };
+            written_turn(answer_fault(alloc, &fault, close, sink))
+        }
+        Err(HttpFault::NotAnObject { at }) => {
+            let fault = HttpFault::NotAnObject { at };
+            written_turn(answer_fault(alloc, &fault, close, sink))
+        }
+    }
 }
 
 // Answers the requests of a reader that stands at the front of its source.

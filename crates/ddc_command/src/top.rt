@@ -1,103 +1,219 @@
 // The top call.
-ghost use Rattle.std.specs.Prelude.{◌≡◌, ◌↔◌, ◌⊎◌, ℕ, List, codes, false, IfOk};
-ghost use Rattle.std.specs.Io.KnownBytes.{Keeps, IsAtEnd};
-ghost use Rattle.ddc_link.specs.Causes.{Rose};
-ghost use Rattle.ddc_protocol.specs.Requests.{End, closed};
-ghost use Rattle.ddc_command.specs.Replies.{opened};
-ghost use Rattle.ddc_command.specs.Session.{Whole, Front, FirstReplies, RepliesToRead, Serves};
-ghost use Rattle.ddc_command.specs.Top.{is_replay, usage_note, bad_note, Noted, IsStatus, IsBad};
+ghost use Rattle.std.specs.Prelude.{◌≡◌, ◌≢◌, ◌⊎◌, ◌↔◌, None, IfOk, IfErr, string_bytes, true};
+ghost use Rattle.ddc_disk.specs.declared.devices.Devices.{Devices};
+ghost use Rattle.ddc_model.specs.Entries.{is_time};
+ghost use Rattle.ddc_command.specs.Top.{Ends, EndsFor, EndsInit, EndsReplay, FailsToOpen, Finds, Noted, is_unmade, made_line, note_of, status_of};
+ghost use Rattle.ddc_command.specs.Words.{AreTimes, form_in, form_of};
+ghost use Rattle.ddc_command.specs.declared.end.Ended.{Ended};
 
-use crate::notes::{report, report_usage};
-use crate::session::{Served, run_session};
-use ddc_link::{Clock, Sink, Source};
-use ddc_model::{Limits, StoreFault};
-use ddc_names::Namespace;
-use memory_store::Store;
+use crate::end::Ended;
+use crate::form::Asked;
+use crate::notes::report;
+use crate::session::run_session;
+use crate::words::asked;
+use ddc_book::{Book, OpenFault, StoreFault};
+use ddc_disk::{Devices, Disk};
+use ddc_link::{Clock, Sink, Source, put_all};
+use ddc_model::Limits;
+use ddc_names::{Namespace, NoMemory};
 use std::alloc::Global;
 
-// Whether the words are the command `replay` and one further word.
-fn is_replay(words: &[String]) -> bool
-    ensures { result ≡ is_replay words.now }
-{
-    match words {
-        [command, _] => command.as_bytes() == b"replay".as_slice(),
-        _ => false,
-    }
-}
-
-// The store that a stream finds: the namespace `game`, which keeps references for 24 hours and blobs for 4.
-fn opened_store(alloc: Global) -> Result<Store, StoreFault>
-    ensures { IfOk result (λ store. store ≡ opened) }
-{
-    let mut store = Store::new(alloc, Limits::standard());
-    let Ok(game) = Namespace::parse("game") else {
-        unreachable!()
-    };
-    match store.set_space(alloc, game, 24, 4) {
-        Ok(()) => Ok(store),
-        Err(fault) => Err(fault),
-    }
-}
-
-// Answers a stream from the store that it finds.
-fn replay<S: Source, W: Sink, C: Clock>(
+// Answers a stream from the store that the devices hold.
+fn replay<D: Disk, S: Source, W: Sink, C: Clock>(
     alloc: Global,
+    devices: Devices<D>,
     source: &mut S,
-    clock: &C,
     sink: &mut W,
-) -> Served
-    ensures gives { Serves (C.tells clock.now) (S.left source.old) (S.left source.new) (W.written sink.old) (W.written sink.new) opened result }
-    ensures read { result ≡ Served.ReadFailed → Rose (S.faults source.old) (S.faults source.new) }
-    ensures write { result ≡ Served.WriteFailed → Rose (W.faults sink.old) (W.faults sink.new) }
+    clock: &C,
+) -> (Ended, Devices<D>)
+    ensures ends { EndsReplay (record { tells = D.tells; meaning = D.meaning; old = devices; new = result.1; hour = C.tells clock.now;
+        input = S.left source.old; left = S.left source.new; from = W.written sink.old; to = W.written sink.new;
+        reads_before = S.faults source.old; reads_now = S.faults source.new; writes_before = W.faults sink.old; writes_now = W.faults sink.new }) result.0 }
+    ensures untouched { status_of result.0 ≡ 2 → (source.new ≡ source.old) × (sink.new ≡ sink.old) }
+    ensures not_usage { status_of result.0 ≢ 1 }
 {
-    match opened_store(alloc) {
-        Ok(mut store) => run_session(alloc, source, &mut store, clock, sink),
-        Err(_) => Served::NoMemory,
+    match Book::load(alloc, devices, Limits::standard()) {
+        Ok(book) => {
+            let mut book = book;
+            let served = run_session(alloc, source, &mut book, clock, sink);
+            (Ended::Replayed(served), book.into_devices())
+        }
+        Err((devices, fault)) => (Ended::Unopened(fault), devices),
     }
 }
 
-/// Does what the words ask for, and gives the exit status. `words` are those behind the program's name.
+// Whether the fault is that no store was made.
+fn is_unmade(fault: &OpenFault) -> bool
+    ensures { result ≡ is_unmade fault.now }
+{
+    match fault {
+        OpenFault::NotMade => true,
+        OpenFault::Corrupt { .. } => false,
+        OpenFault::BadVersion { .. } => false,
+        OpenFault::Unsound { .. } => false,
+        OpenFault::DiskFailed => false,
+        OpenFault::NoMemory => false,
+    }
+}
+
+// The store that the devices hold, or an empty one where none was made.
+fn found_store<D: Disk>(
+    alloc: Global,
+    devices: Devices<D>,
+) -> Result<Book<D>, (Devices<D>, Ended)>
+    ensures found { IfOk result (λ book. Finds D.tells D.meaning devices book) }
+    ensures fails { IfErr result (λ r. FailsToOpen D.tells D.meaning devices r.0 r.1) }
+{
+    match Book::load(alloc, devices, Limits::standard()) {
+        Ok(found) => Ok(found),
+        Err((devices, fault)) => {
+            if !is_unmade(&fault) {
+                return Err((devices, Ended::Unopened(fault)));
+            }
+            match Book::create(alloc, devices, Limits::standard()) {
+                Ok(book) => Ok(book),
+                Err((devices, fault)) => Err((devices, Ended::Uncreated(fault))),
+            }
+        }
+    }
+}
+
+// The line on a namespace that was made.
+fn made_line(alloc: Global, space: &str, ttl: u32, pin: u32) -> Result<String, NoMemory>
+    ensures { IfOk result (λ line. string_bytes line ≡ made_line space.now ttl pin) }
+{
+    Ok(format!(in alloc; "namespace {space} ttl {ttl} pin {pin}\n")?)
+}
+
+// Makes a namespace in a store, and says so. The line's memory is taken before anything is made.
+fn make_space<D: Disk, W: Sink>(
+    alloc: Global,
+    book: Book<D>,
+    space: &Namespace,
+    ttl: u32,
+    pin: u32,
+    sink: &mut W,
+) -> (Ended, Devices<D>)
+    requires ttl { is_time ttl ≡ true }
+    requires pin { is_time pin ≡ true }
+    ensures ends { (old : Devices D) → Finds D.tells D.meaning old book → EndsInit D.tells D.meaning old result.1 (W.written sink.old) (W.written sink.new) (W.faults sink.old) (W.faults sink.new) space.now ttl pin result.0 }
+    ensures opened { status_of result.0 ≢ 2 }
+    ensures not_usage { status_of result.0 ≢ 1 }
+{
+    let mut book = book;
+    let Ok(line) = made_line(alloc, space.as_str(), ttl, pin) else {
+        return (Ended::Unmade(StoreFault::NoMemory), book.into_devices());
+    };
+    if let Err(fault) = book.set_space(alloc, *space, ttl, pin) {
+        return (Ended::Unmade(fault), book.into_devices());
+    }
+    match put_all(sink, line.as_bytes()) {
+        Ok(()) => (Ended::Made, book.into_devices()),
+        Err(_) => (Ended::Untold, book.into_devices()),
+    }
+}
+
+// Makes a namespace in the store of the devices, and the store where none is made.
+fn init<D: Disk, W: Sink>(
+    alloc: Global,
+    devices: Devices<D>,
+    space: &Namespace,
+    ttl: u32,
+    pin: u32,
+    sink: &mut W,
+) -> (Ended, Devices<D>)
+    requires ttl { is_time ttl ≡ true }
+    requires pin { is_time pin ≡ true }
+    ensures ends { EndsInit D.tells D.meaning devices result.1 (W.written sink.old) (W.written sink.new) (W.faults sink.old) (W.faults sink.new) space.now ttl pin result.0 }
+    ensures untouched { status_of result.0 ≡ 2 → sink.new ≡ sink.old }
+    ensures not_usage { status_of result.0 ≢ 1 }
+{
+    match found_store(alloc, devices) {
+        Ok(book) => make_space(alloc, book, space, ttl, pin, sink),
+        Err((devices, ended)) => (ended, devices),
+    }
+}
+
+// Does what was asked for.
+fn run_asked<D: Disk, S: Source, W: Sink, C: Clock>(
+    alloc: Global,
+    asked: Asked,
+    devices: Devices<D>,
+    source: &mut S,
+    sink: &mut W,
+    clock: &C,
+) -> (Ended, Devices<D>)
+    requires { AreTimes asked }
+    ensures ends { EndsFor (record { tells = D.tells; meaning = D.meaning; old = devices; new = result.1; hour = C.tells clock.now;
+        input = S.left source.old; left = S.left source.new; from = W.written sink.old; to = W.written sink.new;
+        reads_before = S.faults source.old; reads_now = S.faults source.new; writes_before = W.faults sink.old; writes_now = W.faults sink.new }) (form_in asked) result.0 }
+    ensures untouched { status_of result.0 ≡ 2 → (source.new ≡ source.old) × (sink.new ≡ sink.old) }
+    ensures not_usage { status_of result.0 ≢ 1 }
+{
+    match asked {
+        Asked::Replay => replay(alloc, devices, source, sink, clock),
+        Asked::Init { space, ttl, pin } => init(alloc, devices, &space, ttl, pin, sink),
+    }
+}
+
+// Does what the words ask for.
+fn run_words<D: Disk, S: Source, W: Sink, C: Clock>(
+    alloc: Global,
+    words: &[String],
+    devices: Devices<D>,
+    source: &mut S,
+    sink: &mut W,
+    clock: &C,
+) -> (Ended, Devices<D>)
+    ensures ends { Ends (record { tells = D.tells; meaning = D.meaning; old = devices; new = result.1; hour = C.tells clock.now;
+        input = S.left source.old; left = S.left source.new; from = W.written sink.old; to = W.written sink.new;
+        reads_before = S.faults source.old; reads_now = S.faults source.new; writes_before = W.faults sink.old; writes_now = W.faults sink.new }) words.now result.0 }
+    ensures usage { (status_of result.0 ≡ 1) ↔ (form_of words.now ≡ None) }
+    ensures untouched { (status_of result.0 ≡ 1) ⊎ (status_of result.0 ≡ 2) → (source.new ≡ source.old) × (sink.new ≡ sink.old) }
+{
+    match asked(words) {
+        Some(asked) => run_asked(alloc, asked, devices, source, sink, clock),
+        None => (Ended::Usage, devices),
+    }
+}
+
+/// Does what the words ask for, and gives the exit status and the devices back. `words` are those behind the program's
+/// name, and `devices` are those of the folder DIR, which the words only name.
 ///
-/// `replay DIR` reads requests from `source` and writes the replies to `sink`, from the namespace `game`
-/// and no blob or reference on; DIR is not used yet. What is told of the end goes to `notes`.
+/// `init DIR NS TTL PIN` makes the namespace NS, which keeps references for TTL hours and blobs for PIN, in the store of
+/// the devices, and makes the store where none is made. It writes the line `namespace NS ttl TTL pin PIN` to `sink`.
+///
+/// `replay DIR` opens the store, reads requests from `source` and writes the replies to `sink`.
+///
+/// What is told of the end goes to `notes`.
 ///
 /// | status | comes |
 /// |---|---|
-/// | 0 | the input was read to its end between two requests, and all are answered |
-/// | 1 | the words are of no form; nothing was read or written |
+/// | 0 | the namespace is made; or the input was read to its end between two requests, and all are answered |
+/// | 1 | the words are of no form; nothing was read or written, to any device either |
+/// | 2 | the devices hold no store that opens; nothing was read or written |
 /// | 3 | the input ended inside a request, or at one of no form, or after 10,000 requests |
 /// | 4 | the source or the sink failed |
+/// | 5 | a device failed |
 /// | 6 | there was no memory |
-pub fn run_local<S: Source, W: Sink, N: Sink, C: Clock>(
+/// | 7 | a blob's bytes have another hash than its name |
+/// | 8 | the store has no room for the namespace |
+pub fn run_local<D: Disk, S: Source, W: Sink, N: Sink, C: Clock>(
     alloc: Global,
     words: &[String],
+    devices: Devices<D>,
     source: &mut S,
     sink: &mut W,
     notes: &mut N,
     clock: &C,
-) -> u8
-    ensures statuses { IsStatus result }
-    ensures usage { (result ≡ 1) ↔ (is_replay words.now ≡ false) }
-    ensures untouched { result ≡ 1 → (source.new ≡ source.old) × (sink.new ≡ sink.old)
-        × Noted (N.written notes.old) (N.written notes.new) (N.faults notes.old) (N.faults notes.new) usage_note }
-    ensures done { result ≡ 0 → IsAtEnd (S.left source.new) × Keeps (N.written notes.old) (N.written notes.new)
-        × ((at : ℕ) × Whole (C.tells clock.now) (S.left source.old) (W.written sink.old) (W.written sink.new) opened at closed) }
-    ensures bad { result ≡ 3 → (at : ℕ) × (end : End) × (code : List ℕ) × IsBad end code
-        × Whole (C.tells clock.now) (S.left source.old) (W.written sink.old) (W.written sink.new) opened at end
-        × Noted (N.written notes.old) (N.written notes.new) (N.faults notes.old) (N.faults notes.new) (bad_note at code) }
-    ensures failed { result ≡ 4 → (Rose (S.faults source.old) (S.faults source.new)
-        × RepliesToRead (C.tells clock.now) (S.left source.old) (S.left source.new) (W.written sink.old) (W.written sink.new) opened
-        × Noted (N.written notes.old) (N.written notes.new) (N.faults notes.old) (N.faults notes.new) (codes "ddc: read failed\n"))
-        ⊎ (Rose (W.faults sink.old) (W.faults sink.new)
-        × Front (C.tells clock.now) (S.left source.old) (W.written sink.old) (W.written sink.new) opened
-        × Noted (N.written notes.old) (N.written notes.new) (N.faults notes.old) (N.faults notes.new) (codes "ddc: write failed\n")) }
-    ensures memory { result ≡ 6 → FirstReplies (C.tells clock.now) (S.left source.old) (W.written sink.old) (W.written sink.new) opened
-        × Noted (N.written notes.old) (N.written notes.new) (N.faults notes.old) (N.faults notes.new) (codes "ddc: no memory\n") }
+) -> (u8, Devices<D>)
+    ensures ends { (ended : Ended) × Ends (record { tells = D.tells; meaning = D.meaning; old = devices; new = result.1; hour = C.tells clock.now;
+        input = S.left source.old; left = S.left source.new; from = W.written sink.old; to = W.written sink.new;
+        reads_before = S.faults source.old; reads_now = S.faults source.new; writes_before = W.faults sink.old; writes_now = W.faults sink.new }) words.now ended
+        × (result.0 ≡ status_of ended) × Noted (N.written notes.old) (N.written notes.new) (N.faults notes.old) (N.faults notes.new) (note_of ended) }
+    ensures usage { (result.0 ≡ 1) ↔ (form_of words.now ≡ None) }
+    ensures untouched { (result.0 ≡ 1) ⊎ (result.0 ≡ 2) → (source.new ≡ source.old) × (sink.new ≡ sink.old) }
 {
-    if !is_replay(words) {
-        report_usage(notes);
-        return 1;
-    }
-    let served = replay(alloc, source, clock, sink);
-    report(notes, served)
+    let (ended, devices) = run_words(alloc, words, devices, source, sink, clock);
+    (report(notes, ended), devices)
 }

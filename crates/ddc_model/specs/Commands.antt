@@ -9,7 +9,7 @@ use Rattle.ddc_model.specs.declared.entry.Stored.{Stored}
 use Rattle.ddc_model.specs.declared.entry.Entry.{Entry}
 use Rattle.ddc_model.specs.declared.entry.Entry.TheVariants.{Space, Upload, Repin, Put, Finalise, Delete, Touch}
 use Rattle.ddc_model.specs.declared.fault.StoreFault.{StoreFault}
-use Rattle.ddc_model.specs.declared.fault.StoreFault.TheVariants.{Broken, UnknownSpace, NotFound, NotFinalised, NotPending, Full, HistoryFull, NoMemory, DiskFailed, Damaged}
+use Rattle.ddc_model.specs.declared.fault.StoreFault.TheVariants.{UnknownSpace, NotFound, NotFinalised, NotPending}
 use Rattle.ddc_model.specs.Keys.{blob_cmp}
 use Rattle.ddc_model.specs.State.{State, blob_name, blob_at, has_space}
 use Rattle.ddc_model.specs.Entries.{after, is_hash, with_root}
@@ -149,11 +149,6 @@ GetWhere (Ok hash) cache name hour answer made =
 abbrev pub GetAs : Cache → RefName → ℕ → Result (IoHash × List ℕ) StoreFault → Option Entry → Type 0
 GetAs cache name hour answer made = GetWhere (object_of cache.index name) cache name hour answer made
 
--- the same, where the answer is the hash alone
-abbrev pub GetsAs : Cache → RefName → ℕ → Result IoHash StoreFault → Option Entry → Type 0
-GetsAs cache name hour (Ok hash) made = (bytes : List ℕ) × GetAs cache name hour (Ok (hash, bytes)) made
-GetsAs cache name hour (Err fault) made = GetAs cache name hour (Err fault) made
-
 -- the bytes of a blob
 abbrev pub found : {A : Type 0} → Option A → Result A StoreFault
 found (Some x) = Ok x
@@ -182,20 +177,3 @@ kept all (Touch name hour) bytes = all
 abbrev pub changed : Cache → List ℕ → Option Entry → Cache
 changed cache bytes (Some entry) = record { index = after cache.index entry; bytes = kept cache.bytes entry bytes }
 changed cache bytes None = cache
-
-abbrev pub Makes : {A : Type 0} → Cache → List ℕ → Cache → (Result A StoreFault → Option Entry → Type 0) → Result A StoreFault → Type 0
-Makes cache bytes next Answers answer = (made : Option Entry) × Answers answer made × (next ≡ changed cache bytes made)
-
--- a command with these bytes gives its answer and makes its entry; for want of memory it changes nothing
-abbrev pub Gives : {A : Type 0} → Cache → List ℕ → Cache → (Result A StoreFault → Option Entry → Type 0) → Result A StoreFault → Type 0
-Gives cache bytes next Answers (Ok value) = Makes cache bytes next Answers (Ok value)
-Gives cache bytes next Answers (Err UnknownSpace) = Makes cache bytes next Answers (Err UnknownSpace)
-Gives cache bytes next Answers (Err NotFound) = Makes cache bytes next Answers (Err NotFound)
-Gives cache bytes next Answers (Err NotFinalised) = Makes cache bytes next Answers (Err NotFinalised)
-Gives cache bytes next Answers (Err NotPending) = Makes cache bytes next Answers (Err NotPending)
-Gives cache bytes next Answers (Err (Full what limit)) = Makes cache bytes next Answers (Err (Full what limit))
-Gives cache bytes next Answers (Err NoMemory) = next ≡ cache
-Gives cache bytes next Answers (Err (Broken faults)) = ⊥
-Gives cache bytes next Answers (Err (HistoryFull entries links)) = ⊥
-Gives cache bytes next Answers (Err DiskFailed) = ⊥
-Gives cache bytes next Answers (Err (Damaged name bytes_hash)) = ⊥

@@ -1,28 +1,22 @@
-use Rattle.std.proofs.Common.{◌≡◌, List, ℕ, [], ◌∙◌, ap, sym, subst, Result, Ok, Err}
-use Rattle.ddc_names.specs.declared.hash.IoHash.{IoHash}
-use Rattle.ddc_model.specs.declared.fault.StoreFault.{StoreFault}
-use Rattle.ddc_model.specs.Commands.{GetsAs, Gives, fetch}
-use Rattle.ddc_command.proofs.Answering.{got, get_refused, not_refused}
+use Rattle.std.proofs.Common.{[], ◌∙◌, sym, subst, refl, inr}
+use Rattle.ddc_model.specs.declared.fault.StoreFault.TheVariants.{DiskFailed, NoMemory}
+use Rattle.ddc_model.specs.History.{past_of}
+use Rattle.ddc_model.specs.Reads.{HeldAs}
+use Rattle.ddc_book.specs.Calls.{got}
+use Rattle.ddc_protocol.specs.Requests.{get_ref}
+use Rattle.ddc_command.specs.declared.session.Turn.{Turn}
+use Rattle.ddc_command.specs.Replies.{get_reply}
+use Rattle.ddc_command.specs.Writes.{AnswersAs}
+use Rattle.ddc_command.proofs.Answering.{answers, got_gives, got_fault, got_turn}
 use Rattle.ddc_command.proofs.reply.answer_get.Goals as goal
 
-pub returns-in-Ok-fetch : goal.returns-in-Ok-fetch
-returns-in-Ok-fetch g c =
-    let P : Result IoHash StoreFault → Type 0 = λ answer. Gives c.args.store.now [] c.get_ref.new.self (GetsAs c.args.store.now c.args.name.now c.args.hour) answer in
-    let there : fetch c.get_ref.new.self c.args.name.now.space c.in-Ok.hash ≡ Ok c.in-Ok-fetch.bytes.now = sym c.in-Ok-fetch.ensures in
+pub returns : goal.returns
+returns g c =
+    let P : Turn → Type 0 = λ turn. AnswersAs g.D.Disk.tells g.D.Disk.meaning (g.W.Sink.written c.args.sink.now) (g.W.Sink.written c.write_held-written.new.sink) (g.W.Sink.faults c.args.sink.now) (g.W.Sink.faults c.write_held-written.new.sink) c.args.close c.args.hour c.args.book.now (get_ref c.args.name.now) c.get_ref-answer.new.self turn in
     record {
-      gives = got (g.W.Sink.written c.args.sink.now) (g.W.Sink.written c.write_object.new.sink) (g.W.Sink.faults c.args.sink.now) (g.W.Sink.faults c.write_object.new.sink) c.args.close c.args.hour c.args.store.now c.get_ref.new.self c.args.name.now c.in-Ok.hash c.in-Ok-fetch.bytes.now c.write_object.result
-          (subst P c.in-Ok.is c.get_ref.ensures) there c.write_object.ensures.gives;
+      gives = subst P (got_turn c.get_ref-answer.result c.write_held-written.result ∙ sym c.turn_of.ensures) (answers g.D.Disk.tells g.D.Disk.meaning (g.W.Sink.written c.args.sink.now) (g.W.Sink.written c.write_held-written.new.sink) (g.W.Sink.faults c.args.sink.now) (g.W.Sink.faults c.write_held-written.new.sink) c.args.close c.args.hour c.args.book.now c.get_ref-answer.new.self c.requires.unbroken (inr c.get_ref-answer.ensures.goes_on)
+          (get_ref c.args.name.now) [] (HeldAs c.args.book.now.cache (past_of c.args.book.now.steps) c.args.name.now c.args.hour) (get_reply c.args.close)
+          (λ damaged text after h. h) (λ after h. h) (got c.get_ref-answer.result) c.write_held-written.result refl
+          (got_gives c.args.book.now c.get_ref-answer.new.self (HeldAs c.args.book.now.cache (past_of c.args.book.now.steps) c.args.name.now c.args.hour) c.get_ref-answer.result c.get_ref-answer.ensures.gives)
+          (λ e. c.get_ref-answer.ensures.cause (got_fault c.get_ref-answer.result DiskFailed e)) (λ e. c.write_held-written.ensures.memory (got_fault c.get_ref-answer.result NoMemory e)) c.write_held-written.ensures.gives);
     }
-
-pub returns-in-Err : goal.returns-in-Err
-returns-in-Err g c =
-    let P : Result IoHash StoreFault → Type 0 = λ answer. Gives c.args.store.now [] c.get_ref.new.self (GetsAs c.args.store.now c.args.name.now c.args.hour) answer in
-    record {
-      gives = get_refused (g.W.Sink.written c.args.sink.now) (g.W.Sink.written c.write_refusal.new.sink) (g.W.Sink.faults c.args.sink.now) (g.W.Sink.faults c.write_refusal.new.sink) c.args.close c.args.hour c.args.store.now c.get_ref.new.self c.args.name.now c.in-Err.fault c.write_refusal.result
-          (subst P c.in-Err.is c.get_ref.ensures) c.write_refusal.ensures.memory c.write_refusal.ensures.gives;
-    }
-
-pub unreachable-requires : goal.unreachable-requires
-unreachable-requires g c =
-    let P : Result IoHash StoreFault → Type 0 = λ answer. Gives c.args.store.now [] c.get_ref.new.self (GetsAs c.args.store.now c.args.name.now c.args.hour) answer in
-    not_refused c.args.store.now c.get_ref.new.self c.args.name.now c.args.hour c.in-Ok.hash c.in-Err-fetch.field-0 (subst P c.in-Ok.is c.get_ref.ensures) (sym c.in-Err-fetch.ensures)

@@ -1,19 +1,19 @@
-use Rattle.std.proofs.Common.{◌≡◌, ℕ, Option, Ok, Err, refl, sym, subst}
+use Rattle.std.proofs.Common.{Option, Ok, Err, refl, sym, subst}
 use Rattle.std.specs.Io.KnownBytes.{prepend_known}
 use Rattle.ddc_http.specs.Stream.{source_of, held_of, place_of}
 use Rattle.ddc_http.specs.Reader.{asked, Answers}
 use Rattle.ddc_http.specs.declared.request.Request.{Request}
 use Rattle.ddc_http.specs.declared.request.HttpFault.{HttpFault}
 use Rattle.ddc_command.specs.declared.session.Turn.{Turn}
-use Rattle.ddc_command.specs.Session.{TurnAs}
+use Rattle.ddc_command.specs.Session.{TurnAs, store_of}
 use Rattle.ddc_protocol.specs.Replies.{json_reply, mismatch_body, not_object_body}
 use Rattle.ddc_protocol.specs.Requests.{mismatch, not_object}
 use Rattle.ddc_command.proofs.Bounds.{fits}
 use Rattle.ddc_command.proofs.Turning.{turn_answered, turn_refused}
 use Rattle.ddc_command.proofs.session.take_turn.Goals as goal
 
-pub answer-requires : goal.answer-requires
-answer-requires g c =
+pub answer-requires-clause-fits : goal.answer-requires-clause-fits
+answer-requires-clause-fits g c =
     let P : Option Request → Type 0 = λ request. Answers (prepend_known (held_of c.args.reader.now) (g.S.Source.left (source_of c.args.reader.now))) (prepend_known (held_of c.next.new.self) (g.S.Source.left (source_of c.next.new.self)))
     (g.S.Source.left (source_of c.next.new.self)) (place_of c.args.reader.now) (place_of c.next.new.self) (Ok request) in
     let taken = subst P c.in-Ok-Some.field-0-is c.in-Ok-Some.ensures.gives in
@@ -21,33 +21,30 @@ answer-requires g c =
 
 pub returns-in-Ok-Some-clause-gives : goal.returns-in-Ok-Some-clause-gives
 returns-in-Ok-Some-clause-gives g c =
-    let P : Turn → Type 0 = λ turn. TurnAs (g.C.Clock.tells c.args.clock.now) (prepend_known (held_of c.args.reader.now) (g.S.Source.left (source_of c.args.reader.now))) (prepend_known (held_of c.next.new.self) (g.S.Source.left (source_of c.next.new.self)))
-    (g.S.Source.left (source_of c.next.new.self)) (place_of c.args.reader.now) (place_of c.next.new.self) c.args.close (g.W.Sink.written c.args.sink.now) (g.W.Sink.written c.answer.new.sink) c.args.store.now c.answer.new.store turn in
     let A : Option Request → Type 0 = λ request. Answers (prepend_known (held_of c.args.reader.now) (g.S.Source.left (source_of c.args.reader.now))) (prepend_known (held_of c.next.new.self) (g.S.Source.left (source_of c.next.new.self)))
     (g.S.Source.left (source_of c.next.new.self)) (place_of c.args.reader.now) (place_of c.next.new.self) (Ok request) in
-    subst P (sym c.turned.ensures)
-    (turn_answered (g.C.Clock.tells c.args.clock.now) (prepend_known (held_of c.args.reader.now) (g.S.Source.left (source_of c.args.reader.now))) (prepend_known (held_of c.next.new.self) (g.S.Source.left (source_of c.next.new.self)))
-    (g.S.Source.left (source_of c.next.new.self)) (place_of c.args.reader.now) (place_of c.next.new.self) c.args.close (g.W.Sink.written c.args.sink.now) (g.W.Sink.written c.answer.new.sink) (g.W.Sink.faults c.args.sink.now) (g.W.Sink.faults c.answer.new.sink)
-    c.args.store.now c.answer.new.store (asked c.in-Ok-Some.request) c.hour.result c.answer.result c.hour.ensures (subst A c.in-Ok-Some.field-0-is c.in-Ok-Some.ensures.gives) c.answer.ensures.gives)
+    turn_answered (g.C.Clock.tells c.args.clock.now) (prepend_known (held_of c.args.reader.now) (g.S.Source.left (source_of c.args.reader.now))) (prepend_known (held_of c.next.new.self) (g.S.Source.left (source_of c.next.new.self)))
+    (g.S.Source.left (source_of c.next.new.self)) (place_of c.args.reader.now) (place_of c.next.new.self) c.args.close (g.W.Sink.written c.args.sink.now) (g.W.Sink.written c.answer.new.sink)
+    (store_of c.args.book.now) (store_of c.answer.new.book) (asked c.in-Ok-Some.request) (subst A c.in-Ok-Some.field-0-is c.in-Ok-Some.ensures.gives) c.hour.result c.answer.result c.hour.ensures c.answer.ensures.gives.turned
 
 pub returns-in-Err-HashMismatch-clause-gives : goal.returns-in-Err-HashMismatch-clause-gives
 returns-in-Err-HashMismatch-clause-gives g c =
     let A : HttpFault → Type 0 = λ fault. Answers (prepend_known (held_of c.args.reader.now) (g.S.Source.left (source_of c.args.reader.now))) (prepend_known (held_of c.next.new.self) (g.S.Source.left (source_of c.next.new.self)))
     (g.S.Source.left (source_of c.next.new.self)) (place_of c.args.reader.now) (place_of c.next.new.self) (Err fault) in
     let P : Turn → Type 0 = λ turn. TurnAs (g.C.Clock.tells c.args.clock.now) (prepend_known (held_of c.args.reader.now) (g.S.Source.left (source_of c.args.reader.now))) (prepend_known (held_of c.next.new.self) (g.S.Source.left (source_of c.next.new.self)))
-    (g.S.Source.left (source_of c.next.new.self)) (place_of c.args.reader.now) (place_of c.next.new.self) c.args.close (g.W.Sink.written c.args.sink.now) (g.W.Sink.written c.answer_fault-in-Err-HashMismatch.new.sink) c.args.store.now c.args.store.now turn in
-    subst P (sym c.turned-in-Err-HashMismatch.ensures)
+    (g.S.Source.left (source_of c.next.new.self)) (place_of c.args.reader.now) (place_of c.next.new.self) c.args.close (g.W.Sink.written c.args.sink.now) (g.W.Sink.written c.answer_fault-in-Err-HashMismatch.new.sink) (store_of c.args.book.now) (store_of c.args.book.now) turn in
+    subst P (sym c.written_turn.ensures)
     (turn_refused (g.C.Clock.tells c.args.clock.now) (prepend_known (held_of c.args.reader.now) (g.S.Source.left (source_of c.args.reader.now))) (prepend_known (held_of c.next.new.self) (g.S.Source.left (source_of c.next.new.self)))
     (g.S.Source.left (source_of c.next.new.self)) (place_of c.args.reader.now) (place_of c.next.new.self) c.args.close (g.W.Sink.written c.args.sink.now) (g.W.Sink.written c.answer_fault-in-Err-HashMismatch.new.sink) (g.W.Sink.faults c.args.sink.now) (g.W.Sink.faults c.answer_fault-in-Err-HashMismatch.new.sink)
-    c.args.store.now (mismatch c.in-Err-HashMismatch.named c.in-Err-HashMismatch.found) (json_reply 400 (mismatch_body c.in-Err-HashMismatch.named c.in-Err-HashMismatch.found) c.args.close) c.answer_fault-in-Err-HashMismatch.result (λ hour. (refl, refl)) (subst A c.in-Err-HashMismatch.field-0-is c.in-Err-HashMismatch.ensures.gives) c.answer_fault-in-Err-HashMismatch.ensures.gives)
+    (store_of c.args.book.now) (mismatch c.in-Err-HashMismatch.named c.in-Err-HashMismatch.found) (json_reply 400 (mismatch_body c.in-Err-HashMismatch.named c.in-Err-HashMismatch.found) c.args.close) c.answer_fault-in-Err-HashMismatch.result (λ hour. (refl, refl, refl)) (subst A c.in-Err-HashMismatch.field-0-is c.in-Err-HashMismatch.ensures.gives) c.answer_fault-in-Err-HashMismatch.ensures.gives)
 
 pub returns-in-Err-NotAnObject-clause-gives : goal.returns-in-Err-NotAnObject-clause-gives
 returns-in-Err-NotAnObject-clause-gives g c =
     let A : HttpFault → Type 0 = λ fault. Answers (prepend_known (held_of c.args.reader.now) (g.S.Source.left (source_of c.args.reader.now))) (prepend_known (held_of c.next.new.self) (g.S.Source.left (source_of c.next.new.self)))
     (g.S.Source.left (source_of c.next.new.self)) (place_of c.args.reader.now) (place_of c.next.new.self) (Err fault) in
     let P : Turn → Type 0 = λ turn. TurnAs (g.C.Clock.tells c.args.clock.now) (prepend_known (held_of c.args.reader.now) (g.S.Source.left (source_of c.args.reader.now))) (prepend_known (held_of c.next.new.self) (g.S.Source.left (source_of c.next.new.self)))
-    (g.S.Source.left (source_of c.next.new.self)) (place_of c.args.reader.now) (place_of c.next.new.self) c.args.close (g.W.Sink.written c.args.sink.now) (g.W.Sink.written c.answer_fault-in-Err-NotAnObject.new.sink) c.args.store.now c.args.store.now turn in
-    subst P (sym c.turned-in-Err-NotAnObject.ensures)
+    (g.S.Source.left (source_of c.next.new.self)) (place_of c.args.reader.now) (place_of c.next.new.self) c.args.close (g.W.Sink.written c.args.sink.now) (g.W.Sink.written c.answer_fault-in-Err-NotAnObject.new.sink) (store_of c.args.book.now) (store_of c.args.book.now) turn in
+    subst P (sym c.written_turn-in-Err-NotAnObject.ensures)
     (turn_refused (g.C.Clock.tells c.args.clock.now) (prepend_known (held_of c.args.reader.now) (g.S.Source.left (source_of c.args.reader.now))) (prepend_known (held_of c.next.new.self) (g.S.Source.left (source_of c.next.new.self)))
     (g.S.Source.left (source_of c.next.new.self)) (place_of c.args.reader.now) (place_of c.next.new.self) c.args.close (g.W.Sink.written c.args.sink.now) (g.W.Sink.written c.answer_fault-in-Err-NotAnObject.new.sink) (g.W.Sink.faults c.args.sink.now) (g.W.Sink.faults c.answer_fault-in-Err-NotAnObject.new.sink)
-    c.args.store.now (not_object c.in-Err-NotAnObject.at) (json_reply 400 (not_object_body c.in-Err-NotAnObject.at) c.args.close) c.answer_fault-in-Err-NotAnObject.result (λ hour. (refl, refl)) (subst A c.in-Err-NotAnObject.field-0-is c.in-Err-NotAnObject.ensures.gives) c.answer_fault-in-Err-NotAnObject.ensures.gives)
+    (store_of c.args.book.now) (not_object c.in-Err-NotAnObject.at) (json_reply 400 (not_object_body c.in-Err-NotAnObject.at) c.args.close) c.answer_fault-in-Err-NotAnObject.result (λ hour. (refl, refl, refl)) (subst A c.in-Err-NotAnObject.field-0-is c.in-Err-NotAnObject.ensures.gives) c.answer_fault-in-Err-NotAnObject.ensures.gives)

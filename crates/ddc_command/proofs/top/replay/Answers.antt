@@ -1,14 +1,21 @@
 use Rattle.std.proofs.Common.{subst}
-use Rattle.ddc_model.specs.Sound.{Cache}
-use Rattle.ddc_command.specs.Replies.{opened}
-use Rattle.ddc_command.specs.Session.{Serves}
-use Rattle.ddc_command.proofs.Turning.{no_replies}
+use Rattle.ddc_model.specs.declared.rows.Limits.{Limits}
+use Rattle.ddc_book.specs.Loading.{IsLoaded}
+use Rattle.ddc_command.specs.Words.{replay, form_of}
+use Rattle.ddc_command.proofs.Replaying.{replays, replay_unopened}
 use Rattle.ddc_command.proofs.top.replay.Goals as goal
 
-pub returns-in-Ok-clause-gives : goal.returns-in-Ok-clause-gives
-returns-in-Ok-clause-gives g c =
-    let P : Cache → Type 0 = λ cache. Serves (g.C.Clock.tells c.args.clock.now) (g.S.Source.left c.args.source.now) (g.S.Source.left c.run_session.new.source) (g.W.Sink.written c.args.sink.now) (g.W.Sink.written c.run_session.new.sink) cache c.run_session.result in
-    subst P c.in-Ok.ensures c.run_session.ensures.gives
+pub returns-in-Ok-clause-ends : goal.returns-in-Ok-clause-ends
+returns-in-Ok-clause-ends g c =
+    let P : Limits → Type 0 = λ l. IsLoaded g.D.Disk.meaning c.args.devices l c.in-Ok.book in
+    let run = c.run_session-served in
+    replays g.D.Disk.tells g.D.Disk.meaning c.args.devices c.in-Ok.book run.new.book (g.C.Clock.tells c.args.clock.now) (g.S.Source.left c.args.source.now) (g.S.Source.left run.new.source)
+    (g.W.Sink.written c.args.sink.now) (g.W.Sink.written run.new.sink) (g.S.Source.faults c.args.source.now) (g.S.Source.faults run.new.source) (g.W.Sink.faults c.args.sink.now) (g.W.Sink.faults run.new.sink)
+    run.result (subst P c.standard.ensures c.in-Ok.ensures.loaded) run.ensures.gives run.ensures.any_moment run.ensures.stops run.ensures.limits run.ensures.unbroken run.ensures.read run.ensures.write run.ensures.disk
+    c.into_devices.result c.into_devices.ensures.devices c.into_devices.ensures.opens
 
-pub returns-in-Err-clause-gives : goal.returns-in-Err-clause-gives
-returns-in-Err-clause-gives g c = no_replies (g.C.Clock.tells c.args.clock.now) (g.S.Source.left c.args.source.now) (g.W.Sink.written c.args.sink.now) opened
+pub returns-in-Err-clause-ends : goal.returns-in-Err-clause-ends
+returns-in-Err-clause-ends g c =
+    replay_unopened g.D.Disk.tells g.D.Disk.meaning c.args.devices c.in-Err.devices (g.C.Clock.tells c.args.clock.now) (g.S.Source.left c.args.source.now) (g.S.Source.left c.args.source.now)
+    (g.W.Sink.written c.args.sink.now) (g.W.Sink.written c.args.sink.now) (g.S.Source.faults c.args.source.now) (g.S.Source.faults c.args.source.now) (g.W.Sink.faults c.args.sink.now) (g.W.Sink.faults c.args.sink.now)
+    c.standard.result c.standard.ensures c.in-Err.fault c.in-Err.ensures.back c.in-Err.ensures.fault c.in-Err.ensures.cause

@@ -1,0 +1,207 @@
+-- What making a namespace leaves.
+use Rattle.std.proofs.Common.{◌≡◌, ◌≢◌, ℕ, ◌≤◌, Bool, true, false, IsTrue, List, [], ◌∷◌, ◌++◌, Option, Some, None, Result, Ok, Err, refl, ◌∙◌, ap, subst, sym, arith, inl, inr, ⊎_elim}
+use Rattle.std.specs.Prelude.{IfSome, ◌⊎◌, String}
+use Rattle.std.specs.declared.alloc.Global.{Global}
+use Rattle.std.specs.Io.KnownBytes.{Appends}
+use Rattle.ddc_link.specs.Causes.{Rose}
+use Rattle.ddc_link.specs.Writes.{AppendsFront}
+use Rattle.ddc_disk.specs.Disk.{Meaning, Timeline, IsImage, EachImage, EachSince}
+use Rattle.ddc_disk.specs.Images.{Images, devices_line, devices_faults}
+use Rattle.ddc_disk.specs.Since.{then_runs, weaker}
+use Rattle.ddc_disk.specs.declared.devices.Devices.{Devices}
+use Rattle.ddc_model.specs.declared.rows.Limits.{Limits}
+use Rattle.ddc_model.specs.declared.entry.Entry.{Entry}
+use Rattle.ddc_model.specs.declared.entry.Entry.TheVariants.{Space}
+use Rattle.ddc_model.specs.declared.entry.Step.{Step}
+use Rattle.ddc_model.specs.declared.entry.Step.TheVariants.{Loaded, Change, Broke}
+use Rattle.ddc_model.specs.declared.fault.StoreFault.{StoreFault}
+use Rattle.ddc_model.specs.declared.fault.StoreFault.TheVariants as faults
+use Rattle.ddc_model.specs.Limits.{standard}
+use Rattle.ddc_model.specs.Sound.{Cache}
+use Rattle.ddc_model.specs.Commands.{SpaceAs, changed}
+use Rattle.ddc_model.specs.History.{Past, broken_by, past_of, WithRoom}
+use Rattle.ddc_book.specs.Calls.{Gives, GoesOn, Becomes}
+use Rattle.ddc_book.specs.Opening.{Opens}
+use Rattle.ddc_book.specs.View.{BookView, limits_of, line_of, faults_of}
+use Rattle.ddc_command.specs.declared.end.Ended.{Ended}
+use Rattle.ddc_command.specs.declared.end.Ended.TheVariants.{Unmade, Made, Untold}
+use Rattle.ddc_command.specs.Words.{init, form_of}
+use Rattle.ddc_command.specs.Top.{Scene, StartsFrom, IsFound, IsEmptyUnmade, Makes, LeavesAfter, Unmakes, Ends, EndsInit, Finds, made_line}
+use Rattle.ddc_command.proofs.Writing.{rose_later}
+use Rattle.ddc_command.proofs.Opened.{nothing_yet, is_unbroken}
+use Rattle.ddc_command.proofs.Spaces.{with_space, space_made, space_refused, IsFull}
+
+unbroken_more : (steps : List Step) (entry : Entry) → broken_by steps ≡ None → broken_by (steps ++ Change entry ∷ []) ≡ None
+unbroken_more [] entry unbroken = refl
+unbroken_more (Loaded limits faults ∷ steps) entry unbroken = unbroken_more steps entry unbroken
+unbroken_more (Change other ∷ steps) entry unbroken = unbroken_more steps entry unbroken
+unbroken_more (Broke changed before now ∷ steps) entry unbroken = cc
+
+becomes_cache : {D : Type 0} (book next : BookView D) (made : Option Entry) → Becomes book [] next made → next.cache ≡ changed book.cache [] made
+becomes_cache book next None same = ap (λ b. b.cache) same
+becomes_cache book next (Some entry) h = h.0
+
+becomes_unbroken : {D : Type 0} (book next : BookView D) (made : Option Entry) → broken_by book.steps ≡ None → Becomes book [] next made → broken_by next.steps ≡ None
+becomes_unbroken book next None unbroken same = ap (λ b. broken_by b.steps) same ∙ unbroken
+becomes_unbroken book next (Some entry) unbroken h = ap broken_by h.1 ∙ unbroken_more book.steps entry unbroken
+
+module _ {D : Type 0} (tells : Bool) (meaning : D → Meaning) (old : Devices D) (book : BookView D) (space : List ℕ) (ttl pin : ℕ) (found : Finds tells meaning old book) where
+  abbrev start : Cache
+  start = book.cache
+
+  abbrev Starts : Type 0
+  Starts = IsTrue tells × EachImage (devices_line meaning old) (λ im. Opens standard im start ⊎ IsEmptyUnmade start im)
+
+  -- a crash now leaves the opened state, that after the entry, or no store
+  abbrev Left : Option Entry → Images → Type 0
+  Left made = λ im. Opens standard im start ⊎ Opens standard im (changed start [] made) ⊎ IsEmptyUnmade start im
+
+  unbroken : broken_by book.steps ≡ None
+  unbroken = is_unbroken standard book.steps found.steps
+
+  space_as : (answer : Result (Unit {0}) StoreFault) (made : Option Entry) → WithRoom start.index (past_of book.steps) (SpaceAs start.index space ttl pin) answer made → SpaceAs start.index space ttl pin answer made
+  space_as answer made h =
+      let P : Past → Type 0 = λ past. WithRoom start.index past (SpaceAs start.index space ttl pin) answer made in
+      with_space start.index space ttl pin answer made found.limits_are (subst P (nothing_yet standard book.steps found.steps) h)
+
+  -- up to the opened book
+  opening : (made : Option Entry) → Starts → EachSince (devices_line meaning old) (line_of meaning book) (Left made)
+  opening made (told, starts) =
+      weaker (devices_line meaning old) (line_of meaning book) (λ im. Opens standard im start ⊎ IsEmptyUnmade start im) (Left made) (found.any_moment told starts) (λ im. ⊎_elim (λ opens. inl opens) (λ none. inr (inr none)))
+
+  -- there is no memory to tell of it, and nothing is made
+  pub lacks_memory : (from to : Option (List ℕ)) (before now : ℕ) (new : Devices D) → (IsTrue tells → broken_by book.steps ≡ None → EachImage (devices_line meaning new) (λ im. Opens (limits_of book) im start))
+      → EndsInit tells meaning old new from to before now space ttl pin (Unmade faults.NoMemory)
+  lacks_memory from to before now new closes words hour input left reads reads_now form =
+      (space, ttl, pin, form, start, (found.held, λ starts im is. let P : Limits → Type 0 = λ l. Opens l im start in subst P found.limits_are (closes starts.0 unbroken im is)))
+
+  module _ (next : BookView D) (goes : GoesOn tells meaning book next) where
+    -- up to the book behind the entry
+    making : (made : Option Entry) → next.cache ≡ changed start [] made → Starts → EachSince (devices_line meaning old) (line_of meaning next) (Left made)
+    making made is (told, starts) =
+        let P : Limits → Type 0 = λ l. EachSince (line_of meaning book) (line_of meaning next) (λ im. Opens l im start ⊎ Opens l im next.cache) in
+        let Q : Cache → Type 0 = λ c. EachSince (line_of meaning book) (line_of meaning next) (λ im. Opens standard im start ⊎ Opens standard im c) in
+        let crash = subst Q is (subst P found.limits_are (goes.crash told unbroken)) in
+        let last = weaker (line_of meaning book) (line_of meaning next) (λ im. Opens standard im start ⊎ Opens standard im (changed start [] made)) (Left made) crash (λ im. ⊎_elim (λ before. inl before) (λ after. inr (inl after))) in
+        then_runs (devices_line meaning old) (line_of meaning book) (line_of meaning next) (Left made) (Left made) (opening made (told, starts)) last (λ im left. left)
+
+    module _ (from to : Option (List ℕ)) (before now : ℕ) where
+      abbrev scene : Option ℕ → Option (List ℕ) → Option (List ℕ) → ℕ → ℕ → Scene D
+      scene hour input left reads reads_now = record {
+        tells = tells;
+        meaning = meaning;
+        old = old;
+        new = next.devices;
+        hour = hour;
+        input = input;
+        left = left;
+        from = from;
+        to = to;
+        reads_before = reads;
+        reads_now = reads_now;
+        writes_before = before;
+        writes_now = now;
+      }
+
+      abbrev Closes : Type 0
+      Closes = IsTrue tells → broken_by next.steps ≡ None → EachImage (line_of meaning next) (λ im. Opens (limits_of next) im next.cache)
+
+      makes : (hour : Option ℕ) (input left : Option (List ℕ)) (reads reads_now : ℕ) (answer : Result (Unit {0}) StoreFault) (made : Option Entry) → SpaceAs start.index space ttl pin answer made → next.cache ≡ changed start [] made
+          → Makes (scene hour input left reads reads_now) space ttl pin start answer made
+      makes hour input left reads reads_now answer made answered is = record { found = found.held; answers = answered; any_moment = making made is }
+
+      limits_next : (made : Option Entry) → next.cache ≡ changed start [] made → (made ≡ None) ⊎ (made ≡ Some (Space space ttl pin)) → limits_of next ≡ standard
+      limits_next made is (inl none) = ap (λ c. c.index.limits) (is ∙ ap (changed start []) none) ∙ found.limits_are
+      limits_next made is (inr some) = ap (λ c. c.index.limits) (is ∙ ap (changed start []) some) ∙ found.limits_are
+
+      leaves : (hour : Option ℕ) (input left : Option (List ℕ)) (reads reads_now : ℕ) (made : Option Entry) → Closes → broken_by next.steps ≡ None → next.cache ≡ changed start [] made → (made ≡ None) ⊎ (made ≡ Some (Space space ttl pin))
+          → LeavesAfter (scene hour input left reads reads_now) start made
+      leaves hour input left reads reads_now made closes unbroken_next is which starts im now =
+          let P : Limits → Type 0 = λ l. Opens l im next.cache in
+          let Q : Cache → Type 0 = λ c. Opens standard im c in
+          subst Q is (subst P (limits_next made is which) (closes starts.0 unbroken_next im now))
+
+      abbrev Answer : Result (Unit {0}) StoreFault → Type 0
+      Answer result = Gives book [] next (WithRoom start.index (past_of book.steps) (SpaceAs start.index space ttl pin)) result
+
+      made_next : Closes → Answer (Ok tt) → Appends from to (made_line space ttl pin) → EndsInit tells meaning old next.devices from to before now space ttl pin Made
+      made_next closes (_, made, answers, becomes) told words hour input left reads reads_now form =
+          let answered = space_as (Ok tt) made answers in
+          let is = becomes_cache book next made becomes in
+          (
+            space,
+            ttl,
+            pin,
+            form,
+            start,
+            made,
+            makes hour input left reads reads_now (Ok tt) made answered is,
+            leaves hour input left reads reads_now made closes (becomes_unbroken book next made unbroken becomes) is (inr (space_made start.index space ttl pin made answered)),
+            told,
+          )
+
+      untold_next : Closes → Answer (Ok tt) → AppendsFront from to (made_line space ttl pin) → Rose before now → EndsInit tells meaning old next.devices from to before now space ttl pin Untold
+      untold_next closes (_, made, answers, becomes) told rose words hour input left reads reads_now form =
+          let answered = space_as (Ok tt) made answers in
+          let is = becomes_cache book next made becomes in
+          (
+            space,
+            ttl,
+            pin,
+            form,
+            start,
+            made,
+            makes hour input left reads reads_now (Ok tt) made answered is,
+            leaves hour input left reads reads_now made closes (becomes_unbroken book next made unbroken becomes) is (inr (space_made start.index space ttl pin made answered)),
+            told,
+            rose,
+          )
+
+      -- a refusal that no namespace gets
+      never : (fault : StoreFault) (made : Option Entry) → WithRoom start.index (past_of book.steps) (SpaceAs start.index space ttl pin) (Err fault) made → IsFull fault
+      never fault made answers = (space_refused start.index space ttl pin fault made (space_as (Err fault) made answers)).1
+
+      unmakes : (hour : Option ℕ) (input left : Option (List ℕ)) (reads reads_now : ℕ) (fault : StoreFault) → Closes → Answer (Err fault) → (fault ≡ faults.DiskFailed → Rose (faults_of meaning book) (faults_of meaning next))
+          → Unmakes (scene hour input left reads reads_now) space ttl pin start fault
+      unmakes hour input left reads reads_now (faults.Broken count) closes (broken, same) cause = let e = unbroken in cc
+      unmakes hour input left reads reads_now faults.UnknownSpace closes (_, made, answers, becomes) cause = cc (never faults.UnknownSpace made answers).2
+      unmakes hour input left reads reads_now faults.NotFound closes (_, made, answers, becomes) cause = cc (never faults.NotFound made answers).2
+      unmakes hour input left reads reads_now faults.NotFinalised closes (_, made, answers, becomes) cause = cc (never faults.NotFinalised made answers).2
+      unmakes hour input left reads reads_now faults.NotPending closes (_, made, answers, becomes) cause = cc (never faults.NotPending made answers).2
+      unmakes hour input left reads reads_now (faults.Full what limit) closes (_, made, answers, becomes) cause =
+          let answered = space_as (Err (faults.Full what limit)) made answers in
+          let none = (space_refused start.index space ttl pin (faults.Full what limit) made answered).0 in
+          let P : Option Entry → Type 0 = λ m. SpaceAs start.index space ttl pin (Err (faults.Full what limit)) m in
+          let Q : Option Entry → Type 0 = λ m. next.cache ≡ changed start [] m in
+          let is = subst Q none (becomes_cache book next made becomes) in
+          (makes hour input left reads reads_now (Err (faults.Full what limit)) None (subst P none answered) is, leaves hour input left reads reads_now None closes (becomes_unbroken book next made unbroken becomes) is (inl refl))
+      unmakes hour input left reads reads_now (faults.HistoryFull entries links) closes (_, made, answers, becomes) cause = cc (never (faults.HistoryFull entries links) made answers).2
+      unmakes hour input left reads reads_now faults.NoMemory closes (_, same) cause =
+          (found.held, leaves hour input left reads reads_now None closes (ap (λ b. broken_by b.steps) same ∙ unbroken) (ap (λ b. b.cache) same) (inl refl))
+      unmakes hour input left reads reads_now faults.DiskFailed closes (_, value, entry, count, count_now, answers, is, steps) cause =
+          (
+            (Some entry, makes hour input left reads reads_now (Ok tt) (Some entry) (space_as (Ok tt) (Some entry) answers) is),
+            rose_later (devices_faults meaning old) (faults_of meaning book) (faults_of meaning next) found.later (cause refl),
+          )
+      unmakes hour input left reads reads_now (faults.Damaged name hash) closes (_, made, answers, becomes) cause = cc (never (faults.Damaged name hash) made answers).2
+
+      unmade_next : (fault : StoreFault) → Closes → Answer (Err fault) → (fault ≡ faults.DiskFailed → Rose (faults_of meaning book) (faults_of meaning next)) → EndsInit tells meaning old next.devices from to before now space ttl pin (Unmade fault)
+      unmade_next fault closes answer cause words hour input left reads reads_now form = (space, ttl, pin, form, start, unmakes hour input left reads reads_now fault closes answer cause)
+
+      abbrev ClosesAt : Devices D → Type 0
+      ClosesAt new = IsTrue tells → broken_by next.steps ≡ None → EachImage (devices_line meaning new) (λ im. Opens (limits_of next) im next.cache)
+
+      pub makes_space : (new : Devices D) → new ≡ next.devices → ClosesAt new → Answer (Ok tt) → Appends from to (made_line space ttl pin) → EndsInit tells meaning old new from to before now space ttl pin Made
+      makes_space new same closes answer told =
+          let P : Devices D → Type 0 = λ d. ClosesAt d → EndsInit tells meaning old d from to before now space ttl pin Made in
+          subst P (sym same) (λ c. made_next c answer told) closes
+
+      pub makes_untold : (new : Devices D) → new ≡ next.devices → ClosesAt new → Answer (Ok tt) → AppendsFront from to (made_line space ttl pin) → Rose before now → EndsInit tells meaning old new from to before now space ttl pin Untold
+      makes_untold new same closes answer told rose =
+          let P : Devices D → Type 0 = λ d. ClosesAt d → EndsInit tells meaning old d from to before now space ttl pin Untold in
+          subst P (sym same) (λ c. untold_next c answer told rose) closes
+
+      pub refuses_space : (fault : StoreFault) (new : Devices D) → new ≡ next.devices → ClosesAt new → Answer (Err fault) → (fault ≡ faults.DiskFailed → Rose (faults_of meaning book) (faults_of meaning next)) → EndsInit tells meaning old new from to before now space ttl pin (Unmade fault)
+      refuses_space fault new same closes answer cause =
+          let P : Devices D → Type 0 = λ d. ClosesAt d → EndsInit tells meaning old d from to before now space ttl pin (Unmade fault) in
+          subst P (sym same) (λ c. unmade_next fault c answer cause) closes

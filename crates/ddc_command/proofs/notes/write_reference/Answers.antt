@@ -1,0 +1,23 @@
+use Rattle.std.proofs.Common.{List, ℕ, ◌++◌, codes, Result, Ok, ◌∙◌, subst}
+use Rattle.ddc_names.specs.declared.Failed.{Failed}
+use Rattle.ddc_names.specs.Names.{key_text}
+use Rattle.ddc_command.specs.Top.{NotesAs}
+use Rattle.ddc_command.proofs.Noting.{notes_then}
+use Rattle.ddc_command.proofs.notes.write_reference.Goals as goal
+
+pub returns-in-Ok : goal.returns-in-Ok
+returns-in-Ok g c =
+    let space = c.as_bytes.ensures.value ∙ c.as_str.ensures.text in
+    let bucket = c.as_bytes-2.ensures.value ∙ c.as_str-2.ensures.text in
+    let name = c.args.name in
+    let old = c.args.notes.now in
+    let mid = c.write_four.new.notes in
+    let new = c.write_note.new.notes in
+    let ok : Result (Unit {0}) Failed = Ok tt in
+    let P : List ℕ → Type 0 = λ t. NotesAs (g.N.Sink.written old) (g.N.Sink.written mid) (g.N.Sink.faults old) (g.N.Sink.faults mid) ((t ++ codes "/") ++ (c.as_bytes-2.result.now ++ codes "/")) ok in
+    let Q : List ℕ → Type 0 = λ t. NotesAs (g.N.Sink.written old) (g.N.Sink.written mid) (g.N.Sink.faults old) (g.N.Sink.faults mid) ((name.space ++ codes "/") ++ (t ++ codes "/")) ok in
+    let R : List ℕ → Type 0 = λ t. NotesAs (g.N.Sink.written mid) (g.N.Sink.written new) (g.N.Sink.faults mid) (g.N.Sink.faults new) t c.write_note.result in
+    record {
+      gives = notes_then (g.N.Sink.written old) (g.N.Sink.written mid) (g.N.Sink.written new) (g.N.Sink.faults old) (g.N.Sink.faults mid) (g.N.Sink.faults new)
+          ((name.space ++ codes "/") ++ (name.spot.bucket ++ codes "/")) (key_text name.spot.key) c.write_note.result (subst Q bucket (subst P space c.in-Ok.ensures.gives)) (subst R c.text.ensures c.write_note.ensures.gives);
+    }

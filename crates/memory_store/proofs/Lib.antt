@@ -1,4 +1,0 @@
-pub mod Giving
-pub mod Making
-pub mod Putting
-pub mod Reading
