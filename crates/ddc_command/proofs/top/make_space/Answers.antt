@@ -9,14 +9,14 @@ use Rattle.ddc_command.proofs.top.make_space.Goals as goal
 pub returns-in_default-clause-ends : goal.returns-in_default-clause-ends
 returns-in_default-clause-ends g c = λ old found.
     lacks_memory g.D.Disk.tells g.D.Disk.meaning old c.args.book c.args.space.now c.args.ttl c.args.pin found
-    (g.W.Sink.written c.args.sink.now) (g.W.Sink.written c.args.sink.now) (g.W.Sink.faults c.args.sink.now) (g.W.Sink.faults c.args.sink.now) c.into_devices.result c.into_devices.ensures.opens
+    (g.W.Sink.written c.args.sink.now) (g.W.Sink.written c.args.sink.now) (g.W.Sink.faults c.args.sink.now) (g.W.Sink.faults c.args.sink.now) c.into_devices.result c.into_devices.ensures.opened
 
 pub returns-in-Err-clause-ends : goal.returns-in-Err-clause-ends
 returns-in-Err-clause-ends g c = λ old found.
     let refused : StoreFault → Result (Unit {0}) StoreFault = λ f. Err f in
     refuses_space g.D.Disk.tells g.D.Disk.meaning old c.args.book c.args.space.now c.args.ttl c.args.pin found c.set_space.new.self c.set_space.ensures.goes_on
     (g.W.Sink.written c.args.sink.now) (g.W.Sink.written c.args.sink.now) (g.W.Sink.faults c.args.sink.now) (g.W.Sink.faults c.args.sink.now)
-    c.in-Err.fault c.into_devices-in-Err.result c.into_devices-in-Err.ensures.devices c.into_devices-in-Err.ensures.opens c.in-Err.ensures.gives (λ e. c.in-Err.ensures.cause (ap refused e))
+    c.in-Err.fault c.into_devices-in-Err.result c.into_devices-in-Err.ensures.devices c.into_devices-in-Err.ensures.opened c.in-Err.ensures.gives (λ e. c.in-Err.ensures.cause (ap refused e))
 
 pub returns-in-Ok-put_all-clause-ends : goal.returns-in-Ok-put_all-clause-ends
 returns-in-Ok-put_all-clause-ends g c = λ old found.
@@ -25,7 +25,7 @@ returns-in-Ok-put_all-clause-ends g c = λ old found.
     let P : List ℕ → Type 0 = λ t. Appends (g.W.Sink.written c.args.sink.now) (g.W.Sink.written c.put_all.new.sink) t in
     makes_space g.D.Disk.tells g.D.Disk.meaning old c.args.book c.args.space.now c.args.ttl c.args.pin found c.set_space.new.self c.set_space.ensures.goes_on
     (g.W.Sink.written c.args.sink.now) (g.W.Sink.written c.put_all.new.sink) (g.W.Sink.faults c.args.sink.now) (g.W.Sink.faults c.put_all.new.sink)
-    c.into_devices-in-Ok-put_all.result c.into_devices-in-Ok-put_all.ensures.devices c.into_devices-in-Ok-put_all.ensures.opens c.in_default-set_space.ensures.gives (subst P text c.in-Ok-put_all.ensures.ok)
+    c.into_devices-in-Ok-put_all.result c.into_devices-in-Ok-put_all.ensures.devices c.into_devices-in-Ok-put_all.ensures.opened c.in_default-set_space.ensures.gives (subst P text c.in-Ok-put_all.ensures.ok)
 
 pub returns-clause-ends : goal.returns-clause-ends
 returns-clause-ends g c = λ old found.
@@ -34,5 +34,5 @@ returns-clause-ends g c = λ old found.
     let P : List ℕ → Type 0 = λ t. AppendsFront (g.W.Sink.written c.args.sink.now) (g.W.Sink.written c.put_all.new.sink) t in
     makes_untold g.D.Disk.tells g.D.Disk.meaning old c.args.book c.args.space.now c.args.ttl c.args.pin found c.set_space.new.self c.set_space.ensures.goes_on
     (g.W.Sink.written c.args.sink.now) (g.W.Sink.written c.put_all.new.sink) (g.W.Sink.faults c.args.sink.now) (g.W.Sink.faults c.put_all.new.sink)
-    c.into_devices-in-Err-put_all.result c.into_devices-in-Err-put_all.ensures.devices c.into_devices-in-Err-put_all.ensures.opens c.in_default-set_space.ensures.gives
+    c.into_devices-in-Err-put_all.result c.into_devices-in-Err-put_all.ensures.devices c.into_devices-in-Err-put_all.ensures.opened c.in_default-set_space.ensures.gives
     (subst P text c.in-Err-put_all.ensures.err) c.in-Err-put_all.ensures.cause.failed
