@@ -1,10 +1,10 @@
 //! Closures that a reader can work out by eye, deep and wide ones, and the plain program beside the walk.
 
 use crate::plain::{PlainBlob, missing, object};
-use crate::{needs, needs_with};
+use crate::{first_unsound, needs, needs_with};
 use cb_fields::{Link, LinkKind};
 use ddc_model::{Entry, Limits, Stored};
-use ddc_names::{IoHash, Namespace, NoMemory, Rows};
+use ddc_names::{Bucket, IoHash, Namespace, NoMemory, RefKey, RefName, RefSpot, Rows};
 use ddc_state::Index;
 use std::alloc::Global;
 use std::test::Fail;
@@ -146,52 +146,153 @@ fn a_cycle_is_walked_once(rt: HostRuntime) -> Result<(), Fail> {
     Ok(())
 }
 
-#[test]
-fn a_closure_is_walked_2000_deep(rt: HostRuntime) -> Result<(), Fail> {
-    let space = Namespace::parse("game")?;
-    let mut index = index_with(rt.alloc(), &space)?;
-    for number in 0..2000 {
-        store(
-            rt.alloc(),
-            &mut index,
-            &space,
-            hash_of(number),
-            &[object_of(number + 1)],
-        )?;
-    }
-    let list = needs(rt.alloc(), &mut index, &space, hash_of(0))?;
-    assert_eq!(rt; list.as_slice(), [hash_of(2000)].as_slice());
-    assert_eq!(rt; index.reads(), 2000);
-    Ok(())
-}
-
-// 2,000 objects that share the object 5000 and the binary 6000.
-fn wide(alloc: Global, space: &Namespace) -> Result<Index, NoMemory> {
+// 10,000 objects that all lead to the object 50,000, which has the binary 60,000. In a row, each leads to the next one
+// too.
+fn many(alloc: Global, space: &Namespace, in_a_row: bool) -> Result<Index, NoMemory> {
     let mut index = index_with(alloc, space)?;
-    for number in 1..2001 {
-        store(
-            alloc,
-            &mut index,
-            space,
-            hash_of(number),
-            &[object_of(5000), binary_of(6000)],
-        )?;
+    for number in 1..10_001 {
+        let next = if in_a_row { number + 1 } else { 50_000 };
+        let links = [object_of(next), object_of(50_000)];
+        store(alloc, &mut index, space, hash_of(number), &links)?;
     }
-    store(alloc, &mut index, space, hash_of(5000), &[binary_of(7000)])?;
+    store(
+        alloc,
+        &mut index,
+        space,
+        hash_of(50_000),
+        &[binary_of(60_000)],
+    )?;
     Ok(index)
 }
 
 #[test]
-fn a_closure_of_2000_objects_reads_its_shared_parts_once(rt: HostRuntime) -> Result<(), Fail> {
+fn a_closure_is_walked_10000_deep(rt: HostRuntime) -> Result<(), Fail> {
     let space = Namespace::parse("game")?;
-    let mut index = wide(rt.alloc(), &space)?;
+    let mut index = many(rt.alloc(), &space, true)?;
+    let list = needs(rt.alloc(), &mut index, &space, hash_of(1))?;
+    assert_eq!(rt;
+        list.as_slice(),
+        [hash_of(10_001), hash_of(60_000)].as_slice()
+    );
+    assert_eq!(rt; index.reads(), 10_001);
+    Ok(())
+}
+
+#[test]
+fn a_closure_of_10000_objects_reads_its_shared_parts_once(rt: HostRuntime) -> Result<(), Fail> {
+    let space = Namespace::parse("game")?;
+    let mut index = many(rt.alloc(), &space, false)?;
     let mut links = Vec::new(rt.alloc());
-    for number in 1..2001 {
+    for number in 1..10_001 {
         links.push(object_of(number))?;
     }
     let list = needs_with(rt.alloc(), &mut index, &space, hash_of(0), &links)?;
-    assert_eq!(rt; list.as_slice(), [hash_of(6000), hash_of(7000)].as_slice());
-    assert_eq!(rt; index.reads(), 2001);
+    assert_eq!(rt; list.as_slice(), [hash_of(60_000)].as_slice());
+    assert_eq!(rt; index.reads(), 10_001);
+    Ok(())
+}
+
+// An object that leads to two others.
+fn store_pair(
+    alloc: Global,
+    index: &mut Index,
+    space: &str,
+    number: u64,
+    pair: (u64, u64),
+) -> Result<(), Fail> {
+    let space = Namespace::parse(space)?;
+    let links = [object_of(pair.0), object_of(pair.1)];
+    store(alloc, index, &space, hash_of(number), &links)?;
+    Ok(())
+}
+
+// In `game`, 1 leads to 2, 3 and 4, and 7 leads to 5, which leads to 6. 6 isn't there, and `other` has 1 alone.
+fn two_spaces(alloc: Global) -> Result<Index, Fail> {
+    let mut index = index_with(alloc, &Namespace::parse("game")?)?;
+    let entry = Entry::Space {
+        space: Namespace::parse("other")?,
+        ttl: 24,
+        pin: 4,
+    };
+    apply(alloc, &mut index, &entry)?;
+    for (space, number, first, second) in [
+        ("game", 1, 2, 3),
+        ("game", 2, 4, 4),
+        ("game", 3, 3, 3),
+        ("game", 4, 1, 4),
+        ("game", 5, 2, 6),
+        ("game", 7, 5, 2),
+        ("other", 1, 2, 3),
+    ] {
+        store_pair(alloc, &mut index, space, number, (first, second))?;
+    }
+    Ok(index)
+}
+
+fn name_of(space: &str, bucket: &str) -> Result<RefName, Fail> {
+    Ok(RefName {
+        space: Namespace::parse(space)?,
+        spot: RefSpot {
+            bucket: Bucket::parse(bucket)?,
+            key: RefKey([0; 20]),
+        },
+    })
+}
+
+fn put(
+    alloc: Global,
+    index: &mut Index,
+    name: RefName,
+    root: u64,
+    whole: bool,
+) -> Result<(), NoMemory> {
+    let entry = Entry::Put {
+        name,
+        root: hash_of(root),
+        fresh: None,
+        whole,
+        hour: 100,
+    };
+    apply(alloc, index, &entry)
+}
+
+fn maybe_name(name: Option<(&str, &str)>) -> Result<Option<RefName>, Fail> {
+    match name {
+        Some((space, bucket)) => Ok(Some(name_of(space, bucket)?)),
+        None => Ok(None),
+    }
+}
+
+// Each reference is put, and then the first unsound one is asked for.
+#[test]
+fn the_first_reference_whose_closure_lacks_a_blob_is_found(rt: HostRuntime) -> Result<(), Fail> {
+    let mut index = two_spaces(rt.alloc())?;
+    for (space, bucket, root, whole, unsound) in [
+        ("game", "m", 1, true, None),
+        ("game", "n", 2, true, None),
+        ("game", "b", 7, false, None),
+        ("other", "a", 1, true, Some(("other", "a"))),
+        ("game", "o", 7, true, Some(("game", "o"))),
+        ("game", "c", 5, true, Some(("game", "c"))),
+        ("game", "a", 4, true, Some(("game", "c"))),
+    ] {
+        let name = name_of(space, bucket)?;
+        put(rt.alloc(), &mut index, name, root, whole)?;
+        let found = first_unsound(rt.alloc(), &mut index)?;
+        assert_eq!(rt; found, maybe_name(unsound)?, "{space}/{bucket}");
+    }
+    Ok(())
+}
+
+#[test]
+fn references_of_a_namespace_share_what_was_read(rt: HostRuntime) -> Result<(), Fail> {
+    let mut index = two_spaces(rt.alloc())?;
+    for (bucket, root) in [("a", 1), ("b", 2), ("c", 1), ("d", 4)] {
+        let name = name_of("game", bucket)?;
+        put(rt.alloc(), &mut index, name, root, true)?;
+    }
+    assert_eq!(rt; first_unsound(rt.alloc(), &mut index)?, None);
+    assert_eq!(rt; index.reads(), 4);
     Ok(())
 }
 
