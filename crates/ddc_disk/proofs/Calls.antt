@@ -1,8 +1,8 @@
 -- The trait's clauses, from how a call changed the history.
-use Rattle.std.proofs.Common.{◌≡◌, ◌⊎◌, inl, inr, ⊎_elim, ℕ, ◌+◌, ◌-◌, ◌≤◌, ◌<◌, ◌^◌, min, List, [], ◌∷◌, ◌++◌, length, refl, sym, ◌∙◌, ap, subst, arith}
-use Rattle.std.specs.Prelude.{Bool, true, false, IsTrue, IsErr, Result, Ok, Err, OnOk, Some, MatchResult}
+use Rattle.std.proofs.Common.{◌≡◌, ⊎_elim, ℕ, ◌+◌, ◌-◌, ◌≤◌, ◌<◌, ◌^◌, min, List, [], ◌∷◌, ◌++◌, length, refl, sym, ◌∙◌, ap, subst, arith}
+use Rattle.std.specs.Prelude.{Bool, true, false, IsTrue, Result, Ok, Err, OnOk, MatchResult}
 use Rattle.ddc_disk.specs.Causes.{HasCause}
-use Rattle.ddc_disk.specs.Disk.{Meaning, Timeline, IsImage, EachImage, Continues, Tears, IsCalm, Torn, overwritten}
+use Rattle.ddc_disk.specs.Disk.{Timeline, IsImage, EachImage, Continues, Tears, IsCalm, overwritten}
 use Rattle.ddc_disk.specs.Since.{torn_not}
 use Rattle.ddc_disk.specs.declared.call.Call.{Call}
 use Rattle.ddc_disk.specs.declared.call.What.{What}

@@ -1,6 +1,6 @@
 -- How the devices go on while one of them is lent: the two others rest.
-use Rattle.std.specs.Prelude.{◌≡◌, ℕ, ◌≤◌, List, max}
-use Rattle.std.proofs.Common.{arith, ap}
+use Rattle.std.specs.Prelude.{ℕ, ◌≤◌, List}
+use Rattle.std.proofs.Common.{arith}
 use Rattle.ddc_disk.specs.Disk.{Timeline, Meaning, IsImage, EachSince, Rests}
 use Rattle.ddc_disk.specs.Images.{Images, together, IsLent}
 

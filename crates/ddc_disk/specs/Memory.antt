@@ -1,5 +1,5 @@
 -- A disk in memory: the calls that were made of it, and the images that they leave.
-use Rattle.std.specs.Prelude.{◌≡◌, ◌⊎◌, ℕ, ◌+◌, ◌-◌, ◌^◌, ◌≤◌, ◌==◌, ◌&&◌, Bool, true, false, if◌then◌else◌, nat_le, min, List, [], ◌∷◌, ◌++◌, length, Some, Result, MatchResult}
+use Rattle.std.specs.Prelude.{◌≡◌, ◌⊎◌, ℕ, ◌+◌, ◌-◌, ◌^◌, ◌==◌, ◌&&◌, Bool, true, false, if◌then◌else◌, nat_le, min, List, [], ◌∷◌, ◌++◌, length, Some, Result, MatchResult}
 use Rattle.std.specs.List.{list_any}
 use Rattle.ddc_disk.specs.Disk.{Meaning, Torn, overwritten}
 use Rattle.ddc_disk.specs.declared.call.Call.{Call}

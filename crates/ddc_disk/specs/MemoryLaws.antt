@@ -1,13 +1,13 @@
 -- What holds of every history of a disk in memory.
-use Rattle.std.specs.Prelude.{IsTrue, ◌&&◌, ◌≡◌, ◌≤◌, ◌<◌, ◌^◌, ◌++◌, ◌⊎◌, ℕ, Bool, true, false, nat_le, if◌then◌else◌, List, [], ◌∷◌, length, Some, ◌+◌}
+use Rattle.std.specs.Prelude.{IsTrue, ◌&&◌, ◌≡◌, ◌≤◌, ◌<◌, ◌^◌, ◌++◌, ℕ, Bool, true, false, nat_le, if◌then◌else◌, List, [], ◌∷◌, length, Some, ◌+◌}
 use Rattle.std.proofs.Common.{refl, sym, ◌∙◌, ap, subst, arith, inl, inr}
 use Rattle.std.proofs.lemmas.Bool.Decides.{leb_tells}
-use Rattle.ddc_disk.specs.Disk.{Torn, Rests, overwritten, IsImage}
+use Rattle.ddc_disk.specs.Disk.{Rests, IsImage}
 use Rattle.ddc_disk.specs.Since.{torn_not, torn_written}
 use Rattle.ddc_disk.specs.declared.call.Call.{Call}
 use Rattle.ddc_disk.specs.declared.call.What.{What}
 use Rattle.ddc_disk.specs.declared.call.What.TheVariants.{Write, Sync, Look}
-use Rattle.ddc_disk.specs.Memory.{State, fresh, after_call, after_calls, calls_by, Reached, IsCrash, History, memory_meaning, reads_now, failures, all_by}
+use Rattle.ddc_disk.specs.Memory.{State, fresh, after_call, after_calls, calls_by, IsCrash, History, memory_meaning, reads_now, failures, all_by}
 
 -- what a read gives is an image
 reads_once : (s : State) (what : What) (done : Bool) → IsCrash s s.reads → IsCrash (after_call s what done) (after_call s what done).reads

@@ -1,9 +1,9 @@
 -- How a run of calls goes on.
-use Rattle.std.specs.Prelude.{◌≡◌, ◌⊎◌, ℕ, ◌+◌, ◌≤◌, ◌<◌, max, List, ◌++◌, length, take, drop, replicate, refl, ◌-◌}
-use Rattle.std.proofs.Common.{inl, inr, ⊎_elim, sym, ◌∙◌, ap, arith, append_assoc, take-append-drop, length-append, length-drop}
+use Rattle.std.specs.Prelude.{◌≡◌, ℕ, ◌+◌, List, ◌++◌, length, take, drop, replicate, ◌-◌}
+use Rattle.std.proofs.Common.{⊎_elim, sym, ◌∙◌, ap, arith, append_assoc, take-append-drop, length-append, length-drop}
 use Rattle.std.proofs.lemmas.Bool.{cases_lt}
 use Rattle.std.proofs.lemmas.List.{drop-drop, length-take, length-replicate}
-use Rattle.ddc_disk.specs.Disk.{Timeline, IsImage, Torn, Tears, IsCalm, Continues, Rests, EachSince, EachImage, MayTear, overwritten}
+use Rattle.ddc_disk.specs.Disk.{Timeline, Torn, Tears, Continues, Rests, EachSince, EachImage, MayTear, overwritten}
 
 -- before the first call
 pub started : {I : Type 0} (line : Timeline I) (P : I → Type 0) → Rests line → EachImage line P → EachSince line line P

@@ -1,4 +1,4 @@
-use Rattle.std.proofs.Common.{ℕ, ◌≡◌, ◌+◌, ◌^◌, ◌-◌, min, arith, rules, ap, ◌++◌, ◌∷◌, [], List, sym, refl, subst}
+use Rattle.std.proofs.Common.{ℕ, ◌≡◌, ◌+◌, arith, ap, ◌++◌, ◌∷◌, [], sym}
 use Rattle.std.specs.Prelude.{if◌then◌else◌, Result, Ok, Err, OnOk, false, not}
 use Rattle.std.specs.Result.{is_err}
 use Rattle.ddc_disk.specs.Memory.{failures}

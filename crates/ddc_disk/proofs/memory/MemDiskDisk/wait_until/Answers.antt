@@ -1,4 +1,4 @@
-use Rattle.std.proofs.Common.{◌≡◌, ℕ, List, sym, ◌∙◌, ap, subst, arith, rules}
+use Rattle.std.proofs.Common.{rules}
 use Rattle.ddc_disk.specs.MemoryLaws.{each_by, by_each, all_wider}
 use Rattle.ddc_disk.proofs.memory.MemDiskDisk.wait_until.Goals as goal
 

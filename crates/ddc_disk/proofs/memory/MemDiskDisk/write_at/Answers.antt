@@ -1,8 +1,8 @@
 use Rattle.std.specs.Prelude.{Some}
-use Rattle.std.proofs.Common.{refl, ◌≡◌, ◌<◌, ◌^◌, length, List, ℕ, sym, ◌∙◌, ap, subst, arith, rules}
+use Rattle.std.proofs.Common.{refl, length, sym, ◌∙◌, ap, arith}
 use Rattle.ddc_disk.specs.Memory.{history}
-use Rattle.ddc_disk.specs.declared.call.What.TheVariants.{Write, Sync, Look}
-use Rattle.ddc_disk.proofs.Calls.{call_order, call_continues, call_cause, done_cause, fault_cause, look_calm, look_reads, sync_calm, sync_reads, sync_durable, write_tears, write_reads, write_bytes, far_order, far_continues, far_calm, far_tears, far_reads, far_cause, same_small}
+use Rattle.ddc_disk.specs.declared.call.What.TheVariants.{Write}
+use Rattle.ddc_disk.proofs.Calls.{call_order, call_continues, call_cause, write_tears, write_bytes, far_order, far_continues, far_calm, far_tears, far_reads, far_cause, same_small}
 use Rattle.ddc_disk.proofs.memory.MemDiskDisk.write_at.Goals as goal
 
 pub invariant_of-self : goal.invariant_of-self
