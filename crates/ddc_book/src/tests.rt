@@ -532,22 +532,73 @@ fn a_full_history_refuses_changes_and_serves(rt: HostRuntime) -> Result<(), Fail
     Ok(())
 }
 
-// A store of one change, and then one of two.
+// How many calls were made of the first file, once the lines are answered so.
+fn calls_after(alloc: Global, lines: &[Line]) -> Result<Option<u64>, Fail> {
+    let (wrong, book) = first_wrong(alloc, made(alloc, Limits::standard(), None), lines)?;
+    match book {
+        Some(book) if wrong.is_none() => Ok(Some(book.into_devices().first.calls())),
+        _ => Ok(None),
+    }
+}
+
 #[test]
 fn an_upload_takes_four_device_calls(rt: HostRuntime) -> Result<(), Fail> {
-    let alloc = rt.alloc();
+    assert_eq!(rt; calls_after(rt.alloc(), &[])?, Some(15));
     let lines = [at(7, Call::Upload(b"a"), Told::Done)];
-    for (count, calls) in [(0, 15), (1, 19)] {
-        let (wrong, book) = first_wrong(
-            alloc,
-            made(alloc, Limits::standard(), None),
-            &lines[..count],
-        )?;
-        assert_eq!(rt; wrong, None);
-        let Some(book) = book else {
-            return Ok(());
-        };
-        assert_eq!(rt; book.into_devices().first.calls(), calls);
+    assert_eq!(rt; calls_after(rt.alloc(), &lines)?, Some(19));
+    Ok(())
+}
+
+// How many changes a store has that is opened after so many calls of its first file and a crash.
+fn changes_after(
+    alloc: Global,
+    first: &MemDisk,
+    calls: u64,
+    choice: u64,
+) -> Result<Option<u64>, Fail> {
+    let devices = Devices {
+        first: first.crashed(calls, choice)?,
+        second: MemDisk::new(alloc, Rows::new(alloc)),
+        blobs: MemDisk::new(alloc, Rows::new(alloc)),
+    };
+    match Book::load(alloc, devices, Limits::standard()) {
+        Ok(book) => Ok(Some(book.count().saturating_sub(1))),
+        Err(_back) => Ok(None),
+    }
+}
+
+// A change is there behind its fourth call, and may be there behind its third.
+fn are_changes(found: Option<u64>, calls: u64) -> bool {
+    let whole = calls.saturating_sub(11) / 4;
+    match found {
+        Some(changes) => changes == whole || (calls % 4 == 2 && changes == whole + 1),
+        None => false,
+    }
+}
+
+#[test]
+fn a_crash_leaves_the_changes_before_it(rt: HostRuntime) -> Result<(), Fail> {
+    let alloc = rt.alloc();
+    let lines = [
+        at(7, Call::Put(1, TWICE_OBJECT), Told::Hashes(&[LEAF])),
+        at(8, Call::Upload(b"a"), Told::Done),
+        at(9, Call::Upload(b"a"), Told::Done),
+        at(9, Call::Finalise(1, TWICE), Told::Hashes(&[])),
+        at(10, Call::Get(1), Told::Object(TWICE, TWICE_OBJECT)),
+        at(10, Call::SetSpace, Told::Done),
+        at(10, Call::Delete(1), Told::Done),
+    ];
+    let (wrong, book) = first_wrong(alloc, made(alloc, Limits::standard(), None), &lines)?;
+    assert_eq!(rt; wrong, None);
+    let Some(book) = book else {
+        return Ok(());
+    };
+    let first = book.into_devices().first;
+    assert_eq!(rt; first.calls(), 43);
+    for calls in 11..44 {
+        for choice in 0..4 {
+            assert!(rt; are_changes(changes_after(alloc, &first, calls, choice)?, calls));
+        }
     }
     Ok(())
 }
