@@ -1,9 +1,8 @@
 -- The book that is opened for a new namespace.
-use Rattle.std.proofs.Common.{◌≡◌, ◌≢◌, ℕ, ◌≤◌, Bool, true, false, IsTrue, List, Option, Some, None, refl, ◌∙◌, ap, subst, sym, arith, inl, inr, ⊎_elim}
-use Rattle.std.specs.Prelude.{IfSome, IsSome, ◌⊎◌, String}
-use Rattle.std.specs.declared.alloc.Global.{Global}
+use Rattle.std.proofs.Common.{◌≡◌, ◌≢◌, ℕ, Bool, true, false, IsTrue, List, Option, Some, None, ◌∙◌, ap, subst, sym, arith, inl, inr, ⊎_elim}
+use Rattle.std.specs.Prelude.{IfSome, IsSome, ◌⊎◌}
 use Rattle.ddc_link.specs.Causes.{Rose}
-use Rattle.ddc_disk.specs.Disk.{Meaning, Timeline, IsImage, EachImage, EachSince}
+use Rattle.ddc_disk.specs.Disk.{Meaning, Timeline, IsImage, EachSince}
 use Rattle.ddc_disk.specs.Images.{Images, devices_line, devices_faults}
 use Rattle.ddc_disk.specs.Since.{then_runs, weaker}
 use Rattle.ddc_disk.specs.declared.devices.Devices.{Devices}
@@ -12,11 +11,11 @@ use Rattle.ddc_model.specs.Limits.{standard}
 use Rattle.ddc_model.specs.Sound.{Cache, empty_cache}
 use Rattle.ddc_book.specs.Opening.{Opens, OpenFaultOf}
 use Rattle.ddc_book.specs.Loading.{AsBefore, Creates, IsLoaded, IsCreated}
-use Rattle.ddc_book.specs.View.{BookView, line_of, faults_of}
+use Rattle.ddc_book.specs.View.{BookView, line_of}
 use Rattle.ddc_book.specs.declared.fault.OpenFault.{OpenFault}
 use Rattle.ddc_book.specs.declared.fault.OpenFault.TheVariants.{NotMade, Corrupt, BadVersion, Unsound, DiskFailed, NoMemory}
 use Rattle.ddc_command.specs.declared.end.Ended.TheVariants.{Unopened, Uncreated}
-use Rattle.ddc_command.specs.Words.{Form, init, form_of}
+use Rattle.ddc_command.specs.Words.{init, form_of}
 use Rattle.ddc_command.specs.Top.{IsInit, IsEmptyUnmade, FailsToOpen, Finds, is_unmade}
 use Rattle.ddc_command.proofs.Writing.{rose_later}
 use Rattle.ddc_command.proofs.Statuses.{open_not_1}

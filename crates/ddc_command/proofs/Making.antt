@@ -1,11 +1,10 @@
 -- What making a namespace leaves.
-use Rattle.std.proofs.Common.{◌≡◌, ◌≢◌, ℕ, ◌≤◌, Bool, true, false, IsTrue, List, [], ◌∷◌, ◌++◌, Option, Some, None, Result, Ok, Err, refl, ◌∙◌, ap, subst, sym, arith, inl, inr, ⊎_elim}
-use Rattle.std.specs.Prelude.{IfSome, ◌⊎◌, String}
-use Rattle.std.specs.declared.alloc.Global.{Global}
+use Rattle.std.proofs.Common.{◌≡◌, ℕ, Bool, IsTrue, List, [], ◌∷◌, ◌++◌, Option, Some, None, Result, Ok, Err, refl, ◌∙◌, ap, subst, sym, inl, inr, ⊎_elim}
+use Rattle.std.specs.Prelude.{◌⊎◌}
 use Rattle.std.specs.Io.KnownBytes.{Appends}
 use Rattle.ddc_link.specs.Causes.{Rose}
 use Rattle.ddc_link.specs.Writes.{AppendsFront}
-use Rattle.ddc_disk.specs.Disk.{Meaning, Timeline, IsImage, EachImage, EachSince}
+use Rattle.ddc_disk.specs.Disk.{Meaning, EachImage, EachSince}
 use Rattle.ddc_disk.specs.Images.{Images, devices_line, devices_faults}
 use Rattle.ddc_disk.specs.Since.{then_runs, weaker}
 use Rattle.ddc_disk.specs.declared.devices.Devices.{Devices}
@@ -23,10 +22,8 @@ use Rattle.ddc_model.specs.History.{Past, broken_by, past_of, WithRoom}
 use Rattle.ddc_book.specs.Calls.{Gives, GoesOn, Becomes}
 use Rattle.ddc_book.specs.Opening.{Opens}
 use Rattle.ddc_book.specs.View.{BookView, limits_of, line_of, faults_of}
-use Rattle.ddc_command.specs.declared.end.Ended.{Ended}
 use Rattle.ddc_command.specs.declared.end.Ended.TheVariants.{Unmade, Made, Untold}
-use Rattle.ddc_command.specs.Words.{init, form_of}
-use Rattle.ddc_command.specs.Top.{Scene, StartsFrom, IsFound, IsEmptyUnmade, Makes, LeavesAfter, Unmakes, Ends, EndsInit, Finds, made_line}
+use Rattle.ddc_command.specs.Top.{Scene, IsEmptyUnmade, Makes, LeavesAfter, Unmakes, EndsInit, Finds, made_line}
 use Rattle.ddc_command.proofs.Writing.{rose_later}
 use Rattle.ddc_command.proofs.Opened.{nothing_yet, is_unbroken}
 use Rattle.ddc_command.proofs.Spaces.{with_space, space_made, space_refused, IsFull}

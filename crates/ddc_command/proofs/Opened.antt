@@ -1,12 +1,12 @@
 -- A book that was opened just now.
-use Rattle.std.proofs.Common.{◌≡◌, ℕ, List, [], ◌∷◌, ◌++◌, Option, Some, None, refl, ◌∙◌, ap, subst, sym, arith}
+use Rattle.std.proofs.Common.{◌≡◌, ℕ, List, [], ◌∷◌, ◌++◌, None, refl, ◌∙◌, ap}
 use Rattle.ddc_model.specs.declared.rows.Limits.{Limits}
 use Rattle.ddc_model.specs.declared.entry.Step.{Step}
 use Rattle.ddc_model.specs.declared.entry.Step.TheVariants.{Loaded, Change, Broke}
 use Rattle.ddc_model.specs.History.{Past, none_yet, past_after, past_of_all, past_of, broken_by}
 use Rattle.ddc_book.specs.Loading.{HasOpened}
 use Rattle.ddc_book.specs.View.{BookView}
-use Rattle.ddc_command.specs.Replies.{OpenStore, just_opened}
+use Rattle.ddc_command.specs.Replies.{just_opened}
 use Rattle.ddc_command.specs.Session.{store_of}
 
 past_behind : (past : Past) (changes : List Step) (limits : Limits) (faults : ℕ) → past_of_all past (changes ++ Loaded limits faults ∷ []) ≡ none_yet

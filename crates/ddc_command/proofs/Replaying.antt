@@ -1,9 +1,8 @@
 -- What answering a stream from an opened store leaves.
-use Rattle.std.proofs.Common.{◌≡◌, ◌≢◌, ℕ, ◌≤◌, Bool, true, false, IsTrue, List, [], ◌∷◌, ◌++◌, Option, Some, None, refl, ◌∙◌, ap, subst, sym, arith, length}
-use Rattle.std.specs.Prelude.{IfSome, ◌⊎◌, String}
-use Rattle.std.specs.declared.alloc.Global.{Global}
+use Rattle.std.proofs.Common.{◌≡◌, ◌≢◌, ℕ, Bool, IsTrue, List, [], Option, Some, None, refl, ◌∙◌, subst, sym, arith}
+use Rattle.std.specs.Prelude.{IfSome, ◌⊎◌}
 use Rattle.ddc_link.specs.Causes.{Rose}
-use Rattle.ddc_disk.specs.Disk.{Meaning, Timeline, IsImage, EachImage, EachSince}
+use Rattle.ddc_disk.specs.Disk.{Meaning, IsImage, EachImage, EachSince}
 use Rattle.ddc_disk.specs.Images.{Images, devices_line, devices_faults}
 use Rattle.ddc_disk.specs.Since.{then_runs, weaker}
 use Rattle.ddc_disk.specs.declared.devices.Devices.{Devices}
@@ -13,17 +12,16 @@ use Rattle.ddc_model.specs.History.{broken_by}
 use Rattle.ddc_book.specs.Opening.{Opens, OpenFaultOf}
 use Rattle.ddc_book.specs.declared.fault.OpenFault.{OpenFault}
 use Rattle.ddc_book.specs.declared.fault.OpenFault.TheVariants as open_faults
-use Rattle.ddc_book.specs.Loading.{AsBefore, HasOpened, IsLoaded}
+use Rattle.ddc_book.specs.Loading.{AsBefore, IsLoaded}
 use Rattle.ddc_book.specs.View.{BookView, limits_of, line_of, faults_of}
 use Rattle.ddc_model.specs.Sound.{Cache}
 use Rattle.ddc_command.specs.declared.session.Served.{Served}
 use Rattle.ddc_command.specs.declared.session.Served.TheVariants.{Closed, Unread, Cut, Spent, ReadFailed, WriteFailed, DiskFailed, Damaged, NoMemory}
-use Rattle.ddc_command.specs.declared.end.Ended.{Ended}
 use Rattle.ddc_command.specs.declared.end.Ended.TheVariants.{Replayed, Unopened}
 use Rattle.ddc_command.specs.Replies.{OpenStore, just_opened}
-use Rattle.ddc_command.specs.Session.{store_of, OpensWithin, Serves, Stops, StartsAs, Answered}
+use Rattle.ddc_command.specs.Session.{store_of, OpensWithin, Serves, Stops, StartsAs}
 use Rattle.ddc_command.specs.Words.{replay, form_of}
-use Rattle.ddc_command.specs.Top.{Scene, Replays, HasRisen, IsOpened, OpensTo, Leaves, EndsReplay, Ends}
+use Rattle.ddc_command.specs.Top.{Scene, HasRisen, OpensTo, Leaves, EndsReplay}
 use Rattle.ddc_command.proofs.Writing.{rose_later}
 use Rattle.ddc_command.proofs.Opened.{opens_just}
 use Rattle.ddc_command.proofs.Unopened.{unopens, some_form}

@@ -12,7 +12,7 @@ use Rattle.ddc_model.specs.State.{State}
 use Rattle.ddc_model.specs.Counts.{full, passes, added_spaces, added_blobs, added_refs, added_links, fresh_of, link_count}
 use Rattle.ddc_model.specs.Limits.{standard}
 use Rattle.ddc_model.specs.Commands.{unless, EntryWhere, SpaceAs}
-use Rattle.ddc_model.specs.History.{none_yet, no_room, no_room_for, RoomWhere, WithRoom}
+use Rattle.ddc_model.specs.History.{none_yet, no_room_for, RoomWhere, WithRoom}
 use Rattle.std.specs.FinMap.{len}
 
 -- the history of a store that was just opened has room

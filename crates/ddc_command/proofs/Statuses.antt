@@ -1,5 +1,5 @@
 -- Which ends have the statuses 1 and 2.
-use Rattle.std.proofs.Common.{◌≡◌, ◌≢◌, ℕ, refl, arith}
+use Rattle.std.proofs.Common.{◌≢◌, arith}
 use Rattle.ddc_book.specs.declared.fault.OpenFault.{OpenFault}
 use Rattle.ddc_book.specs.declared.fault.OpenFault.TheVariants as open_faults
 use Rattle.ddc_model.specs.declared.fault.StoreFault.{StoreFault}

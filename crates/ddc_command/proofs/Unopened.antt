@@ -1,5 +1,5 @@
 -- Why a store that can't be opened ends a command.
-use Rattle.std.proofs.Common.{◌≡◌, ◌≢◌, ℕ, List, Option, Some, None, refl, inl, inr, sym, ◌∙◌}
+use Rattle.std.proofs.Common.{◌≡◌, ◌≢◌, Option, Some, None, refl, inl, inr, sym, ◌∙◌}
 use Rattle.std.specs.Prelude.{IfSome, ◌⊎◌}
 use Rattle.ddc_model.specs.Limits.{standard}
 use Rattle.ddc_book.specs.Opening.{OpenFaultOf}

@@ -1,14 +1,14 @@
 -- What the top call answers.
-use Rattle.std.specs.Prelude.{◌≡◌, ◌≢◌, ◌⊎◌, ℕ, ◌≤◌, Bool, true, false, IsTrue, List, [], ◌∷◌, ◌++◌, Option, None, Some, Result, Ok, Err, IfSome, codes, decimal}
+use Rattle.std.specs.Prelude.{◌≡◌, ◌≢◌, ◌⊎◌, ℕ, ◌≤◌, Bool, true, false, IsTrue, List, [], ◌++◌, Option, None, Some, Result, Ok, Err, IfSome, codes, decimal}
 use Rattle.std.specs.declared.alloc.Global.{Global}
 use Rattle.std.specs.Prelude.{String}
-use Rattle.std.specs.Io.KnownBytes.{Appends, Keeps}
+use Rattle.std.specs.Io.KnownBytes.{Appends}
 use Rattle.ddc_names.specs.declared.Failed.{Failed}
 use Rattle.ddc_names.specs.declared.reference.RefName.{RefName}
 use Rattle.ddc_names.specs.Names.{hash_text}
 use Rattle.ddc_link.specs.Causes.{Rose}
 use Rattle.ddc_link.specs.Writes.{AppendsFront}
-use Rattle.ddc_disk.specs.Disk.{Meaning, Timeline, EachImage, EachSince, IsImage}
+use Rattle.ddc_disk.specs.Disk.{Meaning, Timeline, EachImage, EachSince}
 use Rattle.ddc_disk.specs.Images.{Images, devices_faults, devices_line}
 use Rattle.ddc_disk.specs.declared.devices.Devices.{Devices}
 use Rattle.ddc_journal.specs.Journal.{is_made}
@@ -25,7 +25,6 @@ use Rattle.ddc_book.specs.View.{BookView, limits_of, line_of, faults_of}
 use Rattle.ddc_book.specs.declared.fault.OpenFault.{OpenFault}
 use Rattle.ddc_book.specs.declared.fault.OpenFault.TheVariants.{NotMade, Corrupt, BadVersion, Unsound}
 use Rattle.ddc_book.specs.declared.fault.OpenFault.TheVariants as open_faults
-use Rattle.ddc_protocol.specs.Requests.{End, cut, unread, spent}
 use Rattle.ddc_command.specs.declared.session.Served.{Served}
 use Rattle.ddc_command.specs.declared.session.Served.TheVariants.{Closed, Unread, Cut, Spent, ReadFailed, WriteFailed, DiskFailed, Damaged, NoMemory}
 use Rattle.ddc_command.specs.declared.end.Ended.{Ended}

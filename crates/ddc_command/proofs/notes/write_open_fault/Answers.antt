@@ -1,6 +1,5 @@
 use Rattle.std.proofs.Common.{sym, subst}
 use Rattle.ddc_book.specs.declared.fault.OpenFault.{OpenFault}
-use Rattle.ddc_book.specs.declared.fault.OpenFault.TheVariants.{Unsound}
 use Rattle.ddc_command.specs.Top.{NotesAs, open_note, open_cause, unopened_note}
 use Rattle.ddc_command.proofs.notes.write_open_fault.Goals as goal
 

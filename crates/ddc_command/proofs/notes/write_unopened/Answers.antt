@@ -1,4 +1,4 @@
-use Rattle.std.proofs.Common.{List, ℕ, ◌++◌, codes, Result, Ok, Err}
+use Rattle.std.proofs.Common.{◌++◌, codes, Result, Ok, Err}
 use Rattle.ddc_names.specs.declared.Failed.{Failed}
 use Rattle.ddc_command.specs.Top.{open_cause}
 use Rattle.ddc_command.proofs.Noting.{notes_first, notes_then}

@@ -1,4 +1,4 @@
-use Rattle.std.proofs.Common.{◌≡◌, ◌∙◌, ap, subst, List, ℕ, Result, Err}
+use Rattle.std.proofs.Common.{◌∙◌, ap, subst, List, ℕ, Result, Err}
 use Rattle.std.specs.Io.KnownBytes.{Appends}
 use Rattle.ddc_link.specs.Writes.{AppendsFront}
 use Rattle.ddc_model.specs.declared.fault.StoreFault.{StoreFault}

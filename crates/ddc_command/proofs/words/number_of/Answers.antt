@@ -1,4 +1,4 @@
-use Rattle.std.proofs.Common.{◌≡◌, ◌≤◌, ◌-◌, true, false, arith, rules, slice_index_or}
+use Rattle.std.proofs.Common.{◌≡◌, ◌≤◌, true, false, arith, rules, slice_index_or}
 use Rattle.std.proofs.lemmas.Bool.Decides.{nat_tests}
 use Rattle.std.proofs.lemmas.Int.Digits.{digits_value_more}
 use Rattle.std.specs.Char.{is_ascii_digit}
