@@ -37,12 +37,7 @@ fn folder_of(words: &[String]) -> &str {
 }
 
 // A file of a folder, which is opened at its first call. Without a name of the folder there is none.
-fn file_of(
-    rt: HostRuntime,
-    alloc: Global,
-    folder: &str,
-    name: &str,
-) -> Result<FileDisk, NoMemory> {
+fn file_of(rt: HostRuntime, alloc: Global, folder: &str, name: &str) -> Result<FileDisk, NoMemory> {
     if folder.is_empty() {
         return FileDisk::at_path(rt, alloc, "");
     }
@@ -51,11 +46,7 @@ fn file_of(
 }
 
 // The devices of the store in a folder.
-fn devices_of(
-    rt: HostRuntime,
-    alloc: Global,
-    folder: &str,
-) -> Result<Devices<FileDisk>, NoMemory> {
+fn devices_of(rt: HostRuntime, alloc: Global, folder: &str) -> Result<Devices<FileDisk>, NoMemory> {
     Ok(Devices {
         first: file_of(rt, alloc, folder, "journal-a")?,
         second: file_of(rt, alloc, folder, "journal-b")?,

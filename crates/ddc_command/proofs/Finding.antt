@@ -69,21 +69,21 @@ module _ {D : Type 0} (tells : Bool) (meaning : D → Meaning) (old : Devices D)
       some_form (form_of words) (init space ttl pin) form,
       back,
       unopens
-      (record {
-        tells = tells;
-        meaning = meaning;
-        old = old;
-        new = new;
-        hour = hour;
-        input = input;
-        left = left;
-        from = from;
-        to = to;
-        reads_before = reads;
-        reads_now = reads_now;
-        writes_before = writes;
-        writes_now = writes_now;
-      }) (form_of words) fault is cause (λ e. absurd (not_unmade fault off e)),
+          (record {
+            tells = tells;
+            meaning = meaning;
+            old = old;
+            new = new;
+            hour = hour;
+            input = input;
+            left = left;
+            from = from;
+            to = to;
+            reads_before = reads;
+            reads_now = reads_now;
+            writes_before = writes;
+            writes_now = writes_now;
+          }) (form_of words) fault is cause (λ e. absurd (not_unmade fault off e)),
     );
     not_usage = open_not_1 fault;
   }
@@ -115,7 +115,7 @@ module _ {D : Type 0} (tells : Bool) (meaning : D → Meaning) (old : Devices D)
           let R : Cache → Images → Type 0 = λ c im. Opens standard im c ⊎ IsEmptyUnmade c im in
           let first = weaker before between (IsImage before) (Left book.cache) back.since starts in
           let last = weaker between (line_of meaning book) (Making between) (Left book.cache) making
-              (λ im. ⊎_elim (λ now. starts im (image_before im now)) (⊎_elim (λ none. inr (created.cache, none)) (λ opens. let S : Cache → Type 0 = λ c. Opens standard im c in inl (subst S (sym created.cache) opens)))) in
+          (λ im. ⊎_elim (λ now. starts im (image_before im now)) (⊎_elim (λ none. inr (created.cache, none)) (λ opens. let S : Cache → Type 0 = λ c. Opens standard im c in inl (subst S (sym created.cache) opens)))) in
           then_runs before between (line_of meaning book) (Left book.cache) (Left book.cache) first last (λ im left. left);
     }
 

@@ -124,8 +124,7 @@ module _ {D : Type 0} (tells : Bool) (meaning : D → Meaning) (old : Devices D)
       made_next : Closes → Answer (Ok tt) → Appends from to (made_line space ttl pin) → EndsInit tells meaning old next.devices from to before now space ttl pin Made
       made_next closes (_, made, answers, becomes) told words hour input left reads reads_now form =
           let answered = space_as (Ok tt) made answers in
-          let is = becomes_cache book next made becomes in
-          (
+          let is = becomes_cache book next made becomes in (
             space,
             ttl,
             pin,
@@ -140,8 +139,7 @@ module _ {D : Type 0} (tells : Bool) (meaning : D → Meaning) (old : Devices D)
       untold_next : Closes → Answer (Ok tt) → AppendsFront from to (made_line space ttl pin) → Rose before now → EndsInit tells meaning old next.devices from to before now space ttl pin Untold
       untold_next closes (_, made, answers, becomes) told rose words hour input left reads reads_now form =
           let answered = space_as (Ok tt) made answers in
-          let is = becomes_cache book next made becomes in
-          (
+          let is = becomes_cache book next made becomes in (
             space,
             ttl,
             pin,
@@ -175,11 +173,10 @@ module _ {D : Type 0} (tells : Bool) (meaning : D → Meaning) (old : Devices D)
       unmakes hour input left reads reads_now (faults.HistoryFull entries links) closes (_, made, answers, becomes) cause = cc (never (faults.HistoryFull entries links) made answers).2
       unmakes hour input left reads reads_now faults.NoMemory closes (_, same) cause =
           (found.held, leaves hour input left reads reads_now None closes (ap (λ b. broken_by b.steps) same ∙ unbroken) (ap (λ b. b.cache) same) (inl refl))
-      unmakes hour input left reads reads_now faults.DiskFailed closes (_, value, entry, count, count_now, answers, is, steps) cause =
-          (
-            (Some entry, makes hour input left reads reads_now (Ok tt) (Some entry) (space_as (Ok tt) (Some entry) answers) is),
-            rose_later (devices_faults meaning old) (faults_of meaning book) (faults_of meaning next) found.later (cause refl),
-          )
+      unmakes hour input left reads reads_now faults.DiskFailed closes (_, value, entry, count, count_now, answers, is, steps) cause = (
+        (Some entry, makes hour input left reads reads_now (Ok tt) (Some entry) (space_as (Ok tt) (Some entry) answers) is),
+        rose_later (devices_faults meaning old) (faults_of meaning book) (faults_of meaning next) found.later (cause refl),
+      )
       unmakes hour input left reads reads_now (faults.Damaged name hash) closes (_, made, answers, becomes) cause = cc (never (faults.Damaged name hash) made answers).2
 
       unmade_next : (fault : StoreFault) → Closes → Answer (Err fault) → (fault ≡ faults.DiskFailed → Rose (faults_of meaning book) (faults_of meaning next)) → EndsInit tells meaning old next.devices from to before now space ttl pin (Unmade fault)

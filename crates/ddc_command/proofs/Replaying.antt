@@ -91,7 +91,7 @@ module _ {D : Type 0} (tells : Bool) (meaning : D → Meaning) (old : Devices D)
       let P : Limits → Type 0 = λ l. EachSince (line_of meaning book) (line_of meaning next) (OpensWithin hour input (store_of book) l) in
       let Q : OpenStore → Type 0 = λ s. EachSince (line_of meaning book) (line_of meaning next) (OpensWithin hour input s standard) in
       let now : EachImage (line_of meaning book) (λ im. Opens (limits_of book) im book.cache) =
-          λ im is. let R : Limits → Type 0 = λ l. Opens l im book.cache in subst R (sym loaded.limits_are) (opens im (loaded.as_before.since.each (line_of meaning book).moment im loaded.as_before.since.later is)) in
+      λ im is. let R : Limits → Type 0 = λ l. Opens l im book.cache in subst R (sym loaded.limits_are) (opens im (loaded.as_before.since.each (line_of meaning book).moment im loaded.as_before.since.later is)) in
       subst Q just (subst P loaded.limits_are (runs told now))
 
   any_moment : OpensTo scene book.cache → EachSince (devices_line meaning old) (line_of meaning next) Within
@@ -102,22 +102,25 @@ module _ {D : Type 0} (tells : Bool) (meaning : D → Meaning) (old : Devices D)
   leaves : (IsTrue tells → broken_by next.steps ≡ None → EachImage (line_of meaning next) (λ im. Opens (limits_of next) im next.cache)) → OpensTo scene book.cache → Leaves scene start (store_of next) served
   leaves closed (told, opens) =
       let P : Limits → Type 0 = λ l. Stops hour input (line_of meaning next) l (store_of book) (store_of next) served in
-      let Q : OpenStore → Type 0 = λ s. Stops hour input (line_of meaning next) standard s (store_of next) served in
-      (
+      let Q : OpenStore → Type 0 = λ s. Stops hour input (line_of meaning next) standard s (store_of next) served in (
         λ ok im is. let R : Limits → Type 0 = λ l. Opens l im next.cache in subst R (limits ∙ loaded.limits_are) (closed told (unbroken ok) im is),
         subst Q just (subst P loaded.limits_are (stops told)),
       )
 
   ends_next : (IsTrue tells → broken_by next.steps ≡ None → EachImage (line_of meaning next) (λ im. Opens (limits_of next) im next.cache)) → EndsReplay scene (Replayed served)
   ends_next closed words form =
-      let P : OpenStore → Type 0 = λ s. Serves hour input left from to s (store_of next) served in
-      (form, book.cache, store_of next, record {
-        opened = (loaded.held, loaded.whole);
-        serves = subst P just serves;
-        cause = cause served refl;
-        any_moment = any_moment;
-        leaves = leaves closed;
-      })
+      let P : OpenStore → Type 0 = λ s. Serves hour input left from to s (store_of next) served in (
+        form,
+        book.cache,
+        store_of next,
+        record {
+          opened = (loaded.held, loaded.whole);
+          serves = subst P just serves;
+          cause = cause served refl;
+          any_moment = any_moment;
+          leaves = leaves closed;
+        },
+      )
 
   pub replays : (new : Devices D) → new ≡ next.devices → (IsTrue tells → broken_by next.steps ≡ None → EachImage (devices_line meaning new) (λ im. Opens (limits_of next) im next.cache)) → EndsReplay (scene_at new) (Replayed served)
   replays new same closed =
@@ -131,11 +134,10 @@ pub replay_unopened : {D : Type 0} (tells : Bool) (meaning : D → Meaning) (old
     → (fault ≡ open_faults.DiskFailed → Rose (devices_faults meaning old) (devices_faults meaning new))
     → EndsReplay (record { tells = tells; meaning = meaning; old = old; new = new; hour = hour; input = input; left = left; from = from; to = to; reads_before = reads; reads_now = reads_now; writes_before = writes; writes_now = writes_now }) (Unopened fault)
 replay_unopened tells meaning old new hour input left from to reads reads_now writes writes_now limits are fault back is cause words form =
-    let P : Limits → Type 0 = λ l. ((fault ≡ open_faults.DiskFailed) × Rose (devices_faults meaning old) (devices_faults meaning new)) ⊎ IfSome (meaning old.first).held (λ file. OpenFaultOf l file fault) in
-    (
+    let P : Limits → Type 0 = λ l. ((fault ≡ open_faults.DiskFailed) × Rose (devices_faults meaning old) (devices_faults meaning new)) ⊎ IfSome (meaning old.first).held (λ file. OpenFaultOf l file fault) in (
       some_form (form_of words) replay form,
       back,
       unopens
-      (record { tells = tells; meaning = meaning; old = old; new = new; hour = hour; input = input; left = left; from = from; to = to; reads_before = reads; reads_now = reads_now; writes_before = writes; writes_now = writes_now })
-      (form_of words) fault (subst P are is) cause (λ e. form),
+          (record { tells = tells; meaning = meaning; old = old; new = new; hour = hour; input = input; left = left; from = from; to = to; reads_before = reads; reads_now = reads_now; writes_before = writes; writes_now = writes_now })
+          (form_of words) fault (subst P are is) cause (λ e. form),
     )

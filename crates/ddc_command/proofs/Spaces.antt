@@ -59,8 +59,8 @@ full_only s entry =
     let blobs : Option StoreFault = if passes (len s.blobs) (added_blobs (fresh_of entry)) s.limits.blobs then Some (Full Blobs s.limits.blobs) else refs in
     full_or (passes (len s.spaces) (added_spaces s entry) s.limits.spaces) Spaces s.limits.spaces blobs
     (full_or (passes (len s.blobs) (added_blobs (fresh_of entry)) s.limits.blobs) Blobs s.limits.blobs refs
-      (full_or (passes (len s.slots) (added_refs s entry) s.limits.refs) Refs s.limits.refs links
-        (full_or (passes (link_count s) (added_links (fresh_of entry)) s.limits.links) Links s.limits.links None tt)))
+    (full_or (passes (len s.slots) (added_refs s entry) s.limits.refs) Refs s.limits.refs links
+    (full_or (passes (link_count s) (added_links (fresh_of entry)) s.limits.links) Links s.limits.links None tt)))
 
 refused_where : (space : List ℕ) (ttl pin : ℕ) (fault : StoreFault) (made : Option Entry) (cause : Option StoreFault) → IfSome cause IsFull → EntryWhere (unless cause (Some (Space space ttl pin))) (Err fault) made → (made ≡ None) × IsFull fault
 refused_where space ttl pin fault made None none h = cc h.0

@@ -323,8 +323,21 @@ EndsReplay scene ended = EndsFor scene replay ended
 abbrev pub EndsInit : {D : Type 0} → Bool → (D → Meaning) → Devices D → Devices D → Option (List ℕ) → Option (List ℕ) → ℕ → ℕ → List ℕ → ℕ → ℕ → Ended → Type 0
 EndsInit tells meaning old new from to before now space ttl pin ended =
     (words : List (String Global)) (hour : Option ℕ) (input left : Option (List ℕ)) (reads reads_now : ℕ) → form_of words ≡ Some (init space ttl pin)
-    → Ends (record { tells = tells; meaning = meaning; old = old; new = new; hour = hour; input = input; left = left; from = from; to = to;
-      reads_before = reads; reads_now = reads_now; writes_before = before; writes_now = now }) words ended
+    → Ends (record {
+      tells = tells;
+      meaning = meaning;
+      old = old;
+      new = new;
+      hour = hour;
+      input = input;
+      left = left;
+      from = from;
+      to = to;
+      reads_before = reads;
+      reads_now = reads_now;
+      writes_before = before;
+      writes_now = now;
+    }) words ended
 
 abbrev pub is_unmade : OpenFault → Bool
 is_unmade NotMade = true

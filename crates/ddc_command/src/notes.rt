@@ -74,7 +74,13 @@ fn write_reference<N: Sink>(notes: &mut N, name: RefName) -> Result<(), Failed>
     ensures gives { NotesAs (N.written notes.old) (N.written notes.new) (N.faults notes.old) (N.faults notes.new) (reference_text name) result }
 {
     let RefName { space, spot } = name;
-    match write_four(notes, space.as_str().as_bytes(), b"/", spot.bucket.as_str().as_bytes(), b"/") {
+    match write_four(
+        notes,
+        space.as_str().as_bytes(),
+        b"/",
+        spot.bucket.as_str().as_bytes(),
+        b"/",
+    ) {
         Ok(()) => write_note(notes, &spot.key.text()),
         Err(failed) => Err(failed),
     }
@@ -179,10 +185,7 @@ fn write_end<N: Sink>(notes: &mut N, ended: &Ended) -> Result<(), Failed>
     ensures gives { NotesAs (N.written notes.old) (N.written notes.new) (N.faults notes.old) (N.faults notes.new) (note_of ended.now) result }
 {
     match ended {
-        Ended::Usage => write_note(
-            notes,
-            b"usage: ddc init DIR NS TTL PIN | ddc replay DIR\n",
-        ),
+        Ended::Usage => write_note(notes, b"usage: ddc init DIR NS TTL PIN | ddc replay DIR\n"),
         Ended::Unopened(fault) => write_open_fault(notes, *fault),
         Ended::Replayed(served) => write_served(notes, *served),
         Ended::Uncreated(fault) => write_open_fault(notes, *fault),

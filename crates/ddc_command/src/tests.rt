@@ -120,12 +120,7 @@ fn empty(alloc: Global) -> Result<Devices<MemDisk>, NoMemory> {
 }
 
 // A source of bytes in pieces of this size, or in one where the size is 0.
-fn source_of(
-    alloc: Global,
-    input: &[u8],
-    size: u32,
-    reads: &[u64],
-) -> Result<MemSource, NoMemory> {
+fn source_of(alloc: Global, input: &[u8], size: u32, reads: &[u64]) -> Result<MemSource, NoMemory> {
     let bytes: ByteList = rows_of(alloc, input)?;
     let mut sizes = Vec::new(alloc);
     if size > 0 {
@@ -133,11 +128,7 @@ fn source_of(
             sizes.push(size)?;
         }
     }
-    Ok(MemSource::new(
-        bytes,
-        Rows::of_vec(sizes),
-        rows_of(alloc, reads)?,
-    ))
+    Ok(MemSource::new(bytes, Rows::of_vec(sizes), rows_of(alloc, reads)?))
 }
 
 // Runs a command with this source, where the puts of these numbers fail.
@@ -447,7 +438,8 @@ fn an_unsound_reference_is_named(rt: HostRuntime) -> Result<(), Fail> {
         let ran = run_words(rt.alloc(), words, devices, PUT_EMPTY)?;
         assert_eq!(rt; ran.status, 2);
         assert!(rt; ran.written.is_empty());
-        let note = b"ddc: cannot open store: unsound game/b/0000000000000000000000000000000000000000\n";
+        let note =
+            b"ddc: cannot open store: unsound game/b/0000000000000000000000000000000000000000\n";
         assert!(rt; ran.noted.as_slice() == note.as_slice());
     }
     Ok(())

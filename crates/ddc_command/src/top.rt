@@ -26,9 +26,21 @@ fn replay<D: Disk, S: Source, W: Sink, C: Clock>(
     sink: &mut W,
     clock: &C,
 ) -> (Ended, Devices<D>)
-    ensures ends { EndsReplay (record { tells = D.tells; meaning = D.meaning; old = devices; new = result.1; hour = C.tells clock.now;
-        input = S.left source.old; left = S.left source.new; from = W.written sink.old; to = W.written sink.new;
-        reads_before = S.faults source.old; reads_now = S.faults source.new; writes_before = W.faults sink.old; writes_now = W.faults sink.new }) result.0 }
+    ensures ends { EndsReplay (record {
+      tells = D.tells;
+      meaning = D.meaning;
+      old = devices;
+      new = result.1;
+      hour = C.tells clock.now;
+      input = S.left source.old;
+      left = S.left source.new;
+      from = W.written sink.old;
+      to = W.written sink.new;
+      reads_before = S.faults source.old;
+      reads_now = S.faults source.new;
+      writes_before = W.faults sink.old;
+      writes_now = W.faults sink.new;
+    }) result.0 }
     ensures untouched { status_of result.0 ≡ 2 → (source.new ≡ source.old) × (sink.new ≡ sink.old) }
     ensures not_usage { status_of result.0 ≢ 1 }
 {
@@ -57,10 +69,7 @@ fn is_unmade(fault: &OpenFault) -> bool
 }
 
 // The store that the devices hold, or an empty one where none was made.
-fn found_store<D: Disk>(
-    alloc: Global,
-    devices: Devices<D>,
-) -> Result<Book<D>, (Devices<D>, Ended)>
+fn found_store<D: Disk>(alloc: Global, devices: Devices<D>) -> Result<Book<D>, (Devices<D>, Ended)>
     ensures found { IfOk result (λ book. Finds D.tells D.meaning devices book) }
     ensures fails { IfErr result (λ r. FailsToOpen D.tells D.meaning devices r.0 r.1) }
 {
@@ -144,9 +153,21 @@ fn run_asked<D: Disk, S: Source, W: Sink, C: Clock>(
     clock: &C,
 ) -> (Ended, Devices<D>)
     requires { AreTimes asked }
-    ensures ends { EndsFor (record { tells = D.tells; meaning = D.meaning; old = devices; new = result.1; hour = C.tells clock.now;
-        input = S.left source.old; left = S.left source.new; from = W.written sink.old; to = W.written sink.new;
-        reads_before = S.faults source.old; reads_now = S.faults source.new; writes_before = W.faults sink.old; writes_now = W.faults sink.new }) (form_in asked) result.0 }
+    ensures ends { EndsFor (record {
+      tells = D.tells;
+      meaning = D.meaning;
+      old = devices;
+      new = result.1;
+      hour = C.tells clock.now;
+      input = S.left source.old;
+      left = S.left source.new;
+      from = W.written sink.old;
+      to = W.written sink.new;
+      reads_before = S.faults source.old;
+      reads_now = S.faults source.new;
+      writes_before = W.faults sink.old;
+      writes_now = W.faults sink.new;
+    }) (form_in asked) result.0 }
     ensures untouched { status_of result.0 ≡ 2 → (source.new ≡ source.old) × (sink.new ≡ sink.old) }
     ensures not_usage { status_of result.0 ≢ 1 }
 {
@@ -165,9 +186,21 @@ fn run_words<D: Disk, S: Source, W: Sink, C: Clock>(
     sink: &mut W,
     clock: &C,
 ) -> (Ended, Devices<D>)
-    ensures ends { Ends (record { tells = D.tells; meaning = D.meaning; old = devices; new = result.1; hour = C.tells clock.now;
-        input = S.left source.old; left = S.left source.new; from = W.written sink.old; to = W.written sink.new;
-        reads_before = S.faults source.old; reads_now = S.faults source.new; writes_before = W.faults sink.old; writes_now = W.faults sink.new }) words.now result.0 }
+    ensures ends { Ends (record {
+      tells = D.tells;
+      meaning = D.meaning;
+      old = devices;
+      new = result.1;
+      hour = C.tells clock.now;
+      input = S.left source.old;
+      left = S.left source.new;
+      from = W.written sink.old;
+      to = W.written sink.new;
+      reads_before = S.faults source.old;
+      reads_now = S.faults source.new;
+      writes_before = W.faults sink.old;
+      writes_now = W.faults sink.new;
+    }) words.now result.0 }
     ensures usage { (status_of result.0 ≡ 1) ↔ (form_of words.now ≡ None) }
     ensures untouched { (status_of result.0 ≡ 1) ⊎ (status_of result.0 ≡ 2) → (source.new ≡ source.old) × (sink.new ≡ sink.old) }
 {
@@ -207,9 +240,21 @@ pub fn run_local<D: Disk, S: Source, W: Sink, N: Sink, C: Clock>(
     notes: &mut N,
     clock: &C,
 ) -> (u8, Devices<D>)
-    ensures ends { (ended : Ended) × Ends (record { tells = D.tells; meaning = D.meaning; old = devices; new = result.1; hour = C.tells clock.now;
-        input = S.left source.old; left = S.left source.new; from = W.written sink.old; to = W.written sink.new;
-        reads_before = S.faults source.old; reads_now = S.faults source.new; writes_before = W.faults sink.old; writes_now = W.faults sink.new }) words.now ended
+    ensures ends { (ended : Ended) × Ends (record {
+      tells = D.tells;
+      meaning = D.meaning;
+      old = devices;
+      new = result.1;
+      hour = C.tells clock.now;
+      input = S.left source.old;
+      left = S.left source.new;
+      from = W.written sink.old;
+      to = W.written sink.new;
+      reads_before = S.faults source.old;
+      reads_now = S.faults source.new;
+      writes_before = W.faults sink.old;
+      writes_now = W.faults sink.new;
+    }) words.now ended
         × (result.0 ≡ status_of ended) × Noted (N.written notes.old) (N.written notes.new) (N.faults notes.old) (N.faults notes.new) (note_of ended) }
     ensures usage { (result.0 ≡ 1) ↔ (form_of words.now ≡ None) }
     ensures untouched { (result.0 ≡ 1) ⊎ (result.0 ≡ 2) → (source.new ≡ source.old) × (sink.new ≡ sink.old) }
