@@ -475,11 +475,11 @@ class Store:
     """Namespaces, blobs by namespace and hash, references with their finalised and pending objects, and the bodies of the
     journal that leads here."""
 
-    def __init__(self):
-        self.spaces, self.blobs, self.slots, self.hour, self.bodies = {}, {}, {}, 0, []
+    def __init__(self, header=HEADER):
+        self.spaces, self.blobs, self.slots, self.hour, self.bodies, self.header = {}, {}, {}, 0, [], header
 
     def file(self):
-        return HEADER + b'\x01' + b''.join(b'\x01' + four(len(body)) + body for body in self.bodies) + b'\x00'
+        return self.header + b'\x01' + b''.join(b'\x01' + four(len(body)) + body for body in self.bodies) + b'\x00'
 
     def made(self, body):
         self.bodies.append(body)
@@ -648,7 +648,7 @@ class Store:
 
 def opened(data):
     """The store that a file holds; raises Unopened."""
-    store = Store()
+    store = Store(data[:20])
     for at, body in item_bodies(data):
         try:
             store.follow(body)
