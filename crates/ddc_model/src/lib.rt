@@ -8,6 +8,7 @@
 mod entry;
 mod fault;
 mod laws;
+mod name_box;
 mod rows;
 
 pub use entry::{Entry, Step, Stored};
@@ -16,4 +17,5 @@ pub use laws::{
     commands_keep_whole, commands_stay_sound, entries_are_legal, links_fit, one_content,
     one_list_of_needs, whole_stays_whole,
 };
+pub use name_box::NameBox;
 pub use rows::{Blob, BlobName, BlobRow, Extent, Limits, SpaceRow};

@@ -79,14 +79,22 @@ impl Index {
                 root,
                 fresh,
                 ..
-            } => self.spaces.has(&name.space) && self.takes_root(&name.space, root, fresh),
+            } => {
+                let space = &name.get().space;
+                self.spaces.has(space) && self.takes_root(space, root, fresh)
+            }
             Entry::Finalise { name, hash, .. } => {
+                let name = name.get();
                 self.spaces.has(&name.space) && self.waits_for(name, hash)
             }
             Entry::Delete { name, .. } => {
+                let name = name.get();
                 self.spaces.has(&name.space) && self.refs.get(name).is_some()
             }
-            Entry::Touch { name, .. } => self.spaces.has(&name.space) && self.serves(name),
+            Entry::Touch { name, .. } => {
+                let name = name.get();
+                self.spaces.has(&name.space) && self.serves(name)
+            }
         }
     }
 
@@ -115,13 +123,13 @@ impl Index {
                 fresh,
                 whole,
                 hour,
-            } => self.apply_put(alloc, name, root, fresh, *whole, *hour),
-            Entry::Finalise { name, hash, hour } => self.apply_finalise(name, hash, *hour),
+            } => self.apply_put(alloc, name.get(), root, fresh, *whole, *hour),
+            Entry::Finalise { name, hash, hour } => self.apply_finalise(name.get(), hash, *hour),
             Entry::Delete { name, hour } => {
-                self.apply_delete(name, *hour);
+                self.apply_delete(name.get(), *hour);
                 Ok(())
             }
-            Entry::Touch { name, hour } => self.apply_touch(name, *hour),
+            Entry::Touch { name, hour } => self.apply_touch(name.get(), *hour),
         }
     }
 
