@@ -91,7 +91,7 @@ fn keep(alloc: Global, table: &mut ByteTable, entry: &Entry, bytes: &[u8]) -> Re
             name,
             fresh: Some(blob),
             ..
-        } => keep_blob(alloc, table, &name.space, blob, bytes),
+        } => keep_blob(alloc, table, &name.get().space, blob, bytes),
         _ => Ok(()),
     }
 }
