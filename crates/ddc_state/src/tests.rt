@@ -319,7 +319,13 @@ fn what_an_entry_names_has_to_be_there(rt: HostRuntime) -> Result<(), Fail> {
     assert!(rt; !index.fits(&delete_of(rt.alloc(), name)?));
     assert!(rt; !index.fits(&touch_of(rt.alloc(), name)?));
     // a reference whose object is pending can be finalised and taken away, and isn't served
-    assert!(rt; apply(rt.alloc(), &mut index, &put_of(rt.alloc(), name, 1, None, false, 0)?)?);
+    assert!(rt;
+        apply(
+            rt.alloc(),
+            &mut index,
+            &put_of(rt.alloc(), name, 1, None, false, 0)?
+        )?
+    );
     assert!(rt; index.fits(&finalise_of(rt.alloc(), name, 1)?));
     assert!(rt; !index.fits(&finalise_of(rt.alloc(), name, 2)?));
     assert!(rt; index.fits(&delete_of(rt.alloc(), name)?));
