@@ -167,10 +167,12 @@ impl<D: Disk> Book<D> {
             Err(fault) => return Err(fault),
         };
         let held = Held { hash, bytes };
-        match self.touch(alloc, name, hour) {
-            Err(NoMemory) => Err(StoreFault::NoMemory),
-            Ok(None) => Ok(held),
-            Ok(Some(entry)) => match self.commit(alloc, entry, None) {
+        let Ok(touch) = self.touch(alloc, name, hour) else {
+            return Err(StoreFault::NoMemory);
+        };
+        match touch {
+            None => Ok(held),
+            Some(entry) => match self.commit(alloc, entry, None) {
                 Ok(()) => Ok(held),
                 Err(fault) => Err(fault),
             },
