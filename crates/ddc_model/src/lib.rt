@@ -2,7 +2,7 @@
 //!
 //! `specs/` has the state, which entries are legal in it and what each leaves, the closure of an
 //! object over its attachments, and what each command answers. The types here are those that the
-//! definitions speak of, and nothing here runs but the constants.
+//! definitions speak of, and nothing here runs but the constants and the names on the heap.
 #![tactic(auto)]
 
 mod entry;
