@@ -21,9 +21,11 @@ mod reads;
 mod replay;
 #[cfg(test)]
 mod tests;
+mod tied;
 
 pub use book::Book;
 pub use ddc_model::{Step, StoreFault, What};
 pub use fault::OpenFault;
 pub use laws::one_opening;
 pub use reads::{Held, Opened};
+pub use tied::{Opening, Tied};
