@@ -22,6 +22,8 @@ mod replay;
 #[cfg(test)]
 mod tests;
 mod tied;
+#[cfg(test)]
+mod tied_tests;
 
 pub use book::Book;
 pub use ddc_model::{Step, StoreFault, What};
