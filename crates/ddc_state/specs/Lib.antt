@@ -1,2 +1,4 @@
 pub mod Views
 pub mod Counted
+pub mod Nested
+pub mod MapLends

@@ -2,6 +2,7 @@
 //! change them. `ddc_model` defines the state, and what each entry leaves.
 #![tactic(auto)]
 
+mod blob_map;
 mod blobs;
 mod checked;
 mod index;
@@ -11,5 +12,6 @@ mod spaces;
 #[cfg(test)]
 mod tests;
 
+pub use blob_map::BlobMap;
 pub use checked::Checked;
 pub use index::{Index, Read};
