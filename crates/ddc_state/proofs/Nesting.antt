@@ -63,6 +63,10 @@ module _ {V : Type 0} where
   abbrev pub Renews : List (List ℕ × BTreeMap IoHash V) → List (List ℕ × BTreeMap IoHash V) → List ℕ → BTreeMap IoHash V → Type 0
   Renews es fs space blobs = (q : List ℕ) → lookup (is_at (name_cmp q)) fs ≡ cond (is_at (name_cmp space) q) (Some blobs) (lookup (is_at (name_cmp q)) es)
 
+  pub renewed : (m n : BTreeMap (List ℕ) (BTreeMap IoHash V)) (space : List ℕ) (old blobs : BTreeMap IoHash V) → Some old ≡ lookup (is_at (name_cmp space)) m.entries
+      → WritesThrough name_cmp (name_cmp space) m blobs n → Renews m.entries n.entries space blobs
+  renewed m n space old blobs was writes = (writes.3 (ap is_some (sym was))).0
+
   -- that map has something else at one hash
   abbrev pub Rewrites : Option (BTreeMap IoHash V) → BTreeMap IoHash V → IoHash → Option V → Type 0
   Rewrites before blobs hash w = (q : IoHash) → lookup (is_at (io_hash_cmp q)) blobs.entries ≡ cond (is_at (io_hash_cmp hash) q) w (found before q)
