@@ -6,6 +6,7 @@ ghost use Rattle.ddc_model.specs.Entries.{pinned};
 ghost use Rattle.ddc_model.specs.Counts.{links_of_all};
 
 use crate::blob_map::BlobMap;
+use crate::packed::PackedBlob;
 use ddc_model::{Blob, BlobName};
 use ddc_names::NoMemory;
 use std::alloc::Global;
@@ -14,7 +15,7 @@ use std::marker::Model;
 // Contracts see the finite map. How many links the blobs have in all is kept beside it.
 #[derive(Drop)]
 pub(crate) struct BlobTable {
-    blobs: BlobMap<Blob>,
+    blobs: BlobMap<PackedBlob>,
     links: u64,
 }
 
@@ -44,7 +45,7 @@ impl BlobTable {
         }
     }
 
-    pub(crate) fn get(&self, name: &BlobName) -> Option<&Blob>
+    pub(crate) fn get(&self, name: &BlobName) -> Option<&PackedBlob>
         ensures { option_copied result ≡ map.get self.now name.now }
     {
         self.blobs.get(name)
@@ -65,7 +66,7 @@ impl BlobTable {
         let Some(links) = self.links.checked_add(blob.links.len() as u64) else {
             return Err(NoMemory);
         };
-        self.blobs.insert(name, blob)?;
+        self.blobs.insert(name, PackedBlob::of(blob))?;
         self.links = links;
         Ok(())
     }
@@ -75,7 +76,7 @@ impl BlobTable {
         ensures { self.new ≡ pinned self.old name.now hour (map.get self.old name.now) }
     {
         if let Some(blob) = self.blobs.get_mut(name) {
-            blob.row.at = blob.row.at.max(hour);
+            blob.pin(hour);
         }
     }
 
@@ -83,7 +84,7 @@ impl BlobTable {
         ensures { self.new ≡ map.remove self.old name.now }
     {
         if let Some(blob) = self.blobs.remove(name) {
-            self.links -= blob.links.len() as u64;
+            self.links -= blob.links().len() as u64;
         }
     }
 

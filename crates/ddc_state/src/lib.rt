@@ -3,9 +3,12 @@
 #![tactic(auto)]
 
 mod blob_map;
+#[cfg(test)]
+mod blob_map_tests;
 mod blobs;
 mod checked;
 mod index;
+mod packed;
 #[cfg(test)]
 mod plain;
 mod spaces;
