@@ -12,9 +12,10 @@ mod changes;
 mod legal;
 
 use crate::blobs::BlobTable;
+use crate::packed::PackedBlob;
 use crate::spaces::SpaceTable;
 use cb_fields::Link;
-use ddc_model::{Blob, BlobName, BlobRow, Entry, Limits, SpaceRow};
+use ddc_model::{BlobName, BlobRow, Entry, Limits, SpaceRow};
 use ddc_names::{IoHash, Namespace, NoMemory};
 use legal::is_time_of;
 use ref_store::RefTable;
@@ -149,7 +150,7 @@ impl Index {
     {
         let Read { counted: () } = read;
         match self.found(space, hash) {
-            Some(blob) => blob.links.as_slice(),
+            Some(blob) => blob.links(),
             None => &[],
         }
     }
@@ -159,7 +160,7 @@ impl Index {
         ensures { result ≡ option_map (λ blob. blob.row) (blob_at self.now.state space.now hash.now) }
     {
         match self.found(space, hash) {
-            Some(blob) => Some(blob.row),
+            Some(blob) => Some(blob.row()),
             None => None,
         }
     }
@@ -220,7 +221,7 @@ impl Index {
         self.reads
     }
 
-    fn found(&self, space: &Namespace, hash: &IoHash) -> Option<&Blob>
+    fn found(&self, space: &Namespace, hash: &IoHash) -> Option<&PackedBlob>
         ensures { option_copied result ≡ blob_at self.now.state space.now hash.now }
     {
         self.blobs.get(&BlobName {
