@@ -1,7 +1,7 @@
 -- What maps by hash in a map by namespace read and write, as one map by the names of blobs.
 use borrow.Follows.Closed.{read_of}
-use Rattle.std.specs.Prelude.{◌≡◌, ℕ, zero, suc, ◌+◌, ◌-◌, ◌≤◌, Bool, true, false, cond, not, List, [], ◌∷◌, Option, None, Some, is_some, refl}
-use Rattle.std.proofs.Common.{ap, sym, ◌∙◌, inl, inr, arith}
+use Rattle.std.specs.Prelude.{◌≡◌, ℕ, Bool, true, false, cond, not, List, [], ◌∷◌, Option, None, Some, is_some, refl}
+use Rattle.std.proofs.Common.{ap, sym, ◌∙◌, inl, inr}
 use Rattle.std.specs.declared.cmp.Ordering.{Ordering}
 use Rattle.std.specs.declared.cmp.Ordering.TheVariants.{Less, Equal, Greater}
 use Rattle.std.specs.Ordering.{eq_by_cmp, is_eq, ordering_then}
@@ -10,18 +10,14 @@ use Rattle.std.specs.Map.{lookup, set_value}
 use Rattle.std.specs.Option.{ghost_name_of, option_copied_mut}
 use Rattle.std.specs.Borrow.{MutBor}
 use Rattle.std.specs.BTreeMap.{BTreeMap, is_at, WritesThrough}
-use Rattle.std.specs.FinMap.{FinMap, get, insert, remove, retain_keys, len, get-empty, get-insert, get-remove, get-retain_keys, len-insert, len-remove, empty_of_len, same_map}
+use Rattle.std.specs.FinMap.{FinMap, get, insert, remove, retain_keys, len, get-empty, get-insert, get-remove, get-retain_keys, same_map}
 use Rattle.ddc_names.specs.declared.hash.IoHash.{IoHash}
 use Rattle.ddc_names.specs.Orders.{name_cmp, name_exact, name_total, io_hash_cmp, io_hash_total}
 use Rattle.ddc_model.specs.declared.rows.BlobName.{BlobName}
 use Rattle.ddc_model.specs.Keys.{blob_cmp, blob_exact, blob_total}
 use Rattle.ddc_model.specs.State.{blob_name}
 use Rattle.ddc_state.specs.Nested.{with_space, in_spaces}
-
-tied_equal : (o : Ordering) → is_eq o ≡ true → o ≡ Equal
-tied_equal Less e = absurd (cc)
-tied_equal Equal e = refl
-tied_equal Greater e = absurd (cc)
+use Rattle.ddc_state.proofs.Given.{len_given}
 
 module _ {V : Type 0} where
   turned : (b : Bool) (o : Option V) → cond (not b) o None ≡ cond b None o
@@ -63,10 +59,6 @@ module _ {V : Type 0} where
   abbrev pub Renews : List (List ℕ × BTreeMap IoHash V) → List (List ℕ × BTreeMap IoHash V) → List ℕ → BTreeMap IoHash V → Type 0
   Renews es fs space blobs = (q : List ℕ) → lookup (is_at (name_cmp q)) fs ≡ cond (is_at (name_cmp space) q) (Some blobs) (lookup (is_at (name_cmp q)) es)
 
-  pub renewed : (m n : BTreeMap (List ℕ) (BTreeMap IoHash V)) (space : List ℕ) (old blobs : BTreeMap IoHash V) → Some old ≡ lookup (is_at (name_cmp space)) m.entries
-      → WritesThrough name_cmp (name_cmp space) m blobs n → Renews m.entries n.entries space blobs
-  renewed m n space old blobs was writes = (writes.3 (ap is_some (sym was))).0
-
   -- that map has something else at one hash
   abbrev pub Rewrites : Option (BTreeMap IoHash V) → BTreeMap IoHash V → IoHash → Option V → Type 0
   Rewrites before blobs hash w = (q : IoHash) → lookup (is_at (io_hash_cmp q)) blobs.entries ≡ cond (is_at (io_hash_cmp hash) q) w (found before q)
@@ -104,62 +96,17 @@ module _ {V : Type 0} where
       → Renews es fs name.space blobs → Rewrites (lookup (is_at (name_cmp name.space)) es) blobs name.hash (Some v) → in_spaces fs ≡ insert (in_spaces es) name v
   given es fs name blobs v renews rewrites = same_map blob_total blob_exact _ _ (λ q. read_rewritten es fs name blobs (Some v) renews rewrites q ∙ sym (get-insert blob_total (in_spaces es) name v q))
 
-  -- a value is put into a namespace's map, or into the first one that it has
-  pub given_in : (es fs : List (List ℕ × BTreeMap IoHash V)) (name : BlobName) (old blobs : BTreeMap IoHash V) (v : V)
-      → Renews es fs name.space blobs → Some old ≡ lookup (is_at (name_cmp name.space)) es → Rewrites (Some old) blobs name.hash (Some v) → in_spaces fs ≡ insert (in_spaces es) name v
-  given_in es fs name old blobs v renews was rewrites = given es fs name blobs v renews (λ q. rewrites q ∙ ap (λ o. cond (is_at (io_hash_cmp name.hash) q) (Some v) (found o q)) was)
-
+  -- a namespace's first value is put in
   pub given_first : (es fs : List (List ℕ × BTreeMap IoHash V)) (name : BlobName) (none blobs : BTreeMap IoHash V) (v : V)
       → Renews es fs name.space blobs → None ≡ lookup (is_at (name_cmp name.space)) es → none.entries ≡ [] → Rewrites (Some none) blobs name.hash (Some v) → in_spaces fs ≡ insert (in_spaces es) name v
   given_first es fs name none blobs v renews was empty rewrites = given es fs name blobs v renews (λ q.
       rewrites q ∙ ap (cond (is_at (io_hash_cmp name.hash) q) (Some v)) (ap (lookup (is_at (io_hash_cmp q))) empty ∙ ap (λ o. found o q) was))
-
-  -- a value is taken out
-  pub taken_in : (es fs : List (List ℕ × BTreeMap IoHash V)) (name : BlobName) (old blobs : BTreeMap IoHash V)
-      → Renews es fs name.space blobs → Some old ≡ lookup (is_at (name_cmp name.space)) es → Rewrites (Some old) blobs name.hash None → in_spaces fs ≡ remove (in_spaces es) name
-  taken_in es fs name old blobs renews was rewrites = same_map blob_total blob_exact _ _ (λ q.
-      read_rewritten es fs name blobs None renews (λ p. rewrites p ∙ ap (λ o. cond (is_at (io_hash_cmp name.hash) p) None (found o p)) was) q
-      ∙ sym (get-remove blob_total (in_spaces es) name q))
 
   unmoved : (o : Ordering) (now before : Option V) → (o ≡ Equal → now ≡ before) → cond (is_eq o) now before ≡ before
   unmoved Less now before h = refl
   unmoved Equal now before h = h refl
   unmoved Greater now before h = refl
 
-  -- to write a namespace's map as it was changes nothing
-  pub kept_in : (es fs : List (List ℕ × BTreeMap IoHash V)) (space : List ℕ) (blobs old : BTreeMap IoHash V)
-      → Renews es fs space blobs → Some old ≡ lookup (is_at (name_cmp space)) es → blobs.entries ≡ old.entries → in_spaces fs ≡ in_spaces es
-  kept_in es fs space blobs old renews was same = same_map blob_total blob_exact _ _ (λ q.
-      read_renewed es fs space blobs renews q
-      ∙ unmoved (name_cmp q.space space) (found (Some blobs) q.hash) (get (in_spaces es) q) (λ tied.
-          ap (lookup (is_at (io_hash_cmp q.hash))) same ∙ ap (λ o. found o q.hash) was
-          ∙ ap (λ (at : List ℕ). found (lookup (is_at (name_cmp at)) es) q.hash) (sym (name_exact q.space space tied)) ∙ sym (read es q)))
-
--- to take out what isn't there changes nothing, and what is there is at least one
-module _ {V : Type 0} (m : FinMap blob_cmp V) (name : BlobName) where
-  gone : (q : BlobName) (o : Ordering) → blob_cmp q name ≡ o → get m name ≡ None → cond (is_eq o) None (get m q) ≡ get m q
-  gone q Less is none = refl
-  gone q Equal is none = sym none ∙ ap (get m) (sym (blob_exact q name is))
-  gone q Greater is none = refl
-
-  pub none_removed : None ≡ get m name → m ≡ remove m name
-  none_removed none = same_map blob_total blob_exact _ _ (λ q. sym (get-remove blob_total m name q ∙ gone q (blob_cmp q name) refl (sym none)))
-
-  pub one_less : (v : V) → Some v ≡ get m name → len (remove m name) ≡ len m - 1
-  one_less v some = len-remove blob_total m name ∙ ap (λ (o : Option V). cond (is_some o) (len m - 1) (len m)) (sym some)
-
-  some_counted : (v : V) (n : ℕ) → len m ≡ n → Some v ≡ get m name → 1 ≤ n
-  some_counted v zero none some = absurd (let empty = ap (λ (m : FinMap blob_cmp V). get m name) (empty_of_len m none) ∙ get-empty blob_cmp name in cc)
-  some_counted v (suc n) count some = omega arith
-
-  pub at_least_one : (v : V) → Some v ≡ get m name → 1 ≤ len m
-  at_least_one v some = some_counted v (len m) refl some
-
-  pub len_given : (v : V) (had : Bool) → had ≡ is_some (get m name) → len (insert m name v) ≡ cond had (len m) (len m + 1)
-  len_given v had was = len-insert blob_total m name v ∙ ap (λ b. cond b (len m) (len m + 1)) (sym was)
-
--- what a `&mut` into a namespace's map leaves
-module _ {V : Type 0} where
   unwritten : (b : Bool) (e : IoHash × V) (es others : List (IoHash × V)) (o : Option V) (w : V) → None ≡ cond b (Some e.1) o → (None ≡ o → others ≡ es) → cond b ((e.0, w) ∷ es) (e ∷ others) ≡ e ∷ es
   unwritten true e es others o w none rest = absurd (cc)
   unwritten false e es others o w none rest = ap (λ (es : List (IoHash × V)). e ∷ es) (rest none)
@@ -168,18 +115,39 @@ module _ {V : Type 0} where
   set_none test [] w none = refl
   set_none test (e ∷ es) w none = unwritten (test e.0) e es (set_value test es w) (lookup test es) w none (set_none test es w)
 
-  module _ (es fs : List (List ℕ × BTreeMap IoHash V)) (name : BlobName) (old blobs : BTreeMap IoHash V) (w : V) (renews : Renews es fs name.space blobs)
-      (was : Some old ≡ lookup (is_at (name_cmp name.space)) es) (writes : WritesThrough io_hash_cmp (io_hash_cmp name.hash) old w blobs) where
-    pub written : (v : V) → Some v ≡ lookup (is_at (io_hash_cmp name.hash)) old.entries → in_spaces fs ≡ insert (in_spaces es) name w
-    written v some = let there : is_some (lookup (is_at (io_hash_cmp name.hash)) old.entries) ≡ true = ap is_some (sym some) in
-        given_in es fs name old blobs w renews was (writes.3 there).0
+  -- the map of a namespace is written to, where it has one
+  module _ (m n : BTreeMap (List ℕ) (BTreeMap IoHash V)) (name : BlobName) (old new : BTreeMap IoHash V) (was : Some old ≡ lookup (is_at (name_cmp name.space)) m.entries)
+      (through : WritesThrough name_cmp (name_cmp name.space) m new n) where
+    renews : Renews m.entries n.entries name.space new
+    renews = (through.3 (ap is_some (sym was))).0
 
-    len_written_at : (o : Option V) → o ≡ lookup (is_at (io_hash_cmp name.hash)) old.entries → len (in_spaces fs) ≡ len (in_spaces es)
-    len_written_at None none = ap len (kept_in es fs name.space blobs old renews was (writes.0 ∙ set_none (is_at (io_hash_cmp name.hash)) old.entries w none))
-    len_written_at (Some v) some = ap len (written v some) ∙ len_given (in_spaces es) name w true (ap is_some (some ∙ read_in es name old was))
+    rewritten : (w : Option V) → Rewrites (Some old) new name.hash w → Rewrites (lookup (is_at (name_cmp name.space)) m.entries) new name.hash w
+    rewritten w rewrites q = rewrites q ∙ ap (λ o. cond (is_at (io_hash_cmp name.hash) q) w (found o q)) was
 
-    pub len_written : len (in_spaces fs) ≡ len (in_spaces es)
-    len_written = len_written_at (lookup (is_at (io_hash_cmp name.hash)) old.entries) refl
+    pub given_in : (v : V) → Rewrites (Some old) new name.hash (Some v) → in_spaces n.entries ≡ insert (in_spaces m.entries) name v
+    given_in v rewrites = given m.entries n.entries name new v renews (rewritten (Some v) rewrites)
+
+    pub taken_in : Rewrites (Some old) new name.hash None → in_spaces n.entries ≡ remove (in_spaces m.entries) name
+    taken_in rewrites = same_map blob_total blob_exact _ _ (λ q.
+        read_rewritten m.entries n.entries name new None renews (rewritten None rewrites) q ∙ sym (get-remove blob_total (in_spaces m.entries) name q))
+
+    pub kept_in : new.entries ≡ old.entries → in_spaces n.entries ≡ in_spaces m.entries
+    kept_in same = same_map blob_total blob_exact _ _ (λ q.
+        read_renewed m.entries n.entries name.space new renews q
+        ∙ unmoved (name_cmp q.space name.space) (found (Some new) q.hash) (get (in_spaces m.entries) q) (λ tied.
+            ap (lookup (is_at (io_hash_cmp q.hash))) same ∙ ap (λ o. found o q.hash) was
+            ∙ ap (λ (at : List ℕ). found (lookup (is_at (name_cmp at)) m.entries) q.hash) (sym (name_exact q.space name.space tied)) ∙ sym (read m.entries q)))
+
+    module _ (w : V) (writes : WritesThrough io_hash_cmp (io_hash_cmp name.hash) old w new) where
+      pub written : (v : V) → Some v ≡ lookup (is_at (io_hash_cmp name.hash)) old.entries → in_spaces n.entries ≡ insert (in_spaces m.entries) name w
+      written v some = given_in w (writes.3 (ap is_some (sym some))).0
+
+      len_written_at : (o : Option V) → o ≡ lookup (is_at (io_hash_cmp name.hash)) old.entries → len (in_spaces n.entries) ≡ len (in_spaces m.entries)
+      len_written_at None none = ap len (kept_in (writes.0 ∙ set_none (is_at (io_hash_cmp name.hash)) old.entries w none))
+      len_written_at (Some v) some = ap len (written v some) ∙ len_given blob_cmp blob_total (in_spaces m.entries) name w true (ap is_some (some ∙ read_in m.entries name old was))
+
+      pub len_written : len (in_spaces n.entries) ≡ len (in_spaces m.entries)
+      len_written = len_written_at (lookup (is_at (io_hash_cmp name.hash)) old.entries) refl
 
   -- a lender ends alike where it does at each value behind a reference, and at none
   pub ends_alike : (r : Option (MutBor V)) (F G : V → FinMap blob_cmp V) (m n : FinMap blob_cmp V) → ((v : V) → Some v ≡ option_copied_mut r → (w : V) → F w ≡ G w) → m ≡ n

@@ -26,7 +26,7 @@ struct Row {
     len: u64,
 }
 
-const fn row(space: &'static str, hash: u8, deed: Deed, len: u64) -> Row {
+const fn row_of(space: &'static str, hash: u8, deed: Deed, len: u64) -> Row {
     Row {
         space,
         hash,
@@ -61,18 +61,18 @@ fn step(map: &mut BlobMap<u8>, row: Row) -> Result<bool, Fail> {
 #[test]
 fn one_hash_in_two_namespaces_is_two_blobs(rt: HostRuntime) -> Result<(), Fail> {
     let rows = [
-        row("game", 1, Deed::Has(None), 0),
-        row("game", 1, Deed::Insert(5), 1),
-        row("tool", 1, Deed::Has(None), 1),
-        row("tool", 1, Deed::Insert(6), 2),
-        row("game", 1, Deed::Insert(7), 2),
-        row("tool", 1, Deed::Has(Some(6)), 2),
-        row("tool", 1, Deed::Write(8), 2),
-        row("game", 1, Deed::Has(Some(7)), 2),
-        row("game", 2, Deed::Write(9), 2),
-        row("game", 2, Deed::Has(None), 2),
-        row("game", 1, Deed::Remove(Some(7)), 1),
-        row("tool", 1, Deed::Has(Some(8)), 1),
+        row_of("game", 1, Deed::Has(None), 0),
+        row_of("game", 1, Deed::Insert(5), 1),
+        row_of("tool", 1, Deed::Has(None), 1),
+        row_of("tool", 1, Deed::Insert(6), 2),
+        row_of("game", 1, Deed::Insert(7), 2),
+        row_of("tool", 1, Deed::Has(Some(6)), 2),
+        row_of("tool", 1, Deed::Write(8), 2),
+        row_of("game", 1, Deed::Has(Some(7)), 2),
+        row_of("game", 2, Deed::Write(9), 2),
+        row_of("game", 2, Deed::Has(None), 2),
+        row_of("game", 1, Deed::Remove(Some(7)), 1),
+        row_of("tool", 1, Deed::Has(Some(8)), 1),
     ];
     let mut map = BlobMap::new(rt.alloc());
     for row in rows {
@@ -84,17 +84,17 @@ fn one_hash_in_two_namespaces_is_two_blobs(rt: HostRuntime) -> Result<(), Fail> 
 #[test]
 fn a_namespace_is_filled_again_after_its_last_blob(rt: HostRuntime) -> Result<(), Fail> {
     let rows = [
-        row("game", 1, Deed::Insert(5), 1),
-        row("game", 2, Deed::Insert(6), 2),
-        row("game", 1, Deed::Remove(Some(5)), 1),
-        row("game", 1, Deed::Remove(None), 1),
-        row("game", 2, Deed::Remove(Some(6)), 0),
-        row("game", 2, Deed::Remove(None), 0),
-        row("tool", 2, Deed::Remove(None), 0),
-        row("game", 2, Deed::Write(7), 0),
-        row("game", 2, Deed::Has(None), 0),
-        row("game", 2, Deed::Insert(8), 1),
-        row("game", 2, Deed::Has(Some(8)), 1),
+        row_of("game", 1, Deed::Insert(5), 1),
+        row_of("game", 2, Deed::Insert(6), 2),
+        row_of("game", 1, Deed::Remove(Some(5)), 1),
+        row_of("game", 1, Deed::Remove(None), 1),
+        row_of("game", 2, Deed::Remove(Some(6)), 0),
+        row_of("game", 2, Deed::Remove(None), 0),
+        row_of("tool", 2, Deed::Remove(None), 0),
+        row_of("game", 2, Deed::Write(7), 0),
+        row_of("game", 2, Deed::Has(None), 0),
+        row_of("game", 2, Deed::Insert(8), 1),
+        row_of("game", 2, Deed::Has(Some(8)), 1),
     ];
     let mut map = BlobMap::new(rt.alloc());
     for row in rows {

@@ -1,7 +1,8 @@
 use Rattle.std.proofs.Common.{ap, sym, ◌∙◌, ◌≡◌, ◌+◌, ◌-◌, ◌≤◌, length, Some, arith}
 use Rattle.std.specs.FinMap as map
+use Rattle.ddc_model.specs.Keys.{blob_cmp, blob_total, blob_exact}
+use Rattle.ddc_state.proofs.Given.{none_removed}
 use Rattle.ddc_state.proofs.Counting.{links_in_all, taken}
-use Rattle.ddc_state.proofs.Nesting.{none_removed}
 use Rattle.ddc_state.proofs.blobs.BlobTable.remove.Goals as goal
 
 pub overflow_sub-self : goal.overflow_sub-self
@@ -21,4 +22,4 @@ invariant_of-self c =
 
 pub invariant_of-self-in_default : goal.invariant_of-self-in_default
 invariant_of-self-in_default c =
-    ap links_in_all (c.remove.ensures.gone ∙ sym (none_removed c.self.inside.blobs c.args.name.now (sym c.in_default.is ∙ c.remove.ensures.value))) ∙ c.self.invariant
+    ap links_in_all (c.remove.ensures.gone ∙ sym (none_removed blob_cmp blob_total blob_exact c.self.inside.blobs c.args.name.now (sym c.in_default.is ∙ c.remove.ensures.value))) ∙ c.self.invariant
