@@ -216,6 +216,7 @@ fn another_thread_serves_a_tied_store(rt: HostRuntime) -> Result<(), Fail> {
     assert_eq!(rt; wrong, None);
     assert_eq!(rt; back.first.calls(), 35);
     let Ok(book) = Book::load(alloc, back, Limits::standard()) else {
+        assert!(rt; false);
         return Ok(());
     };
     assert_eq!(rt; book.count(), 7);
