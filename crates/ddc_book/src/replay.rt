@@ -129,11 +129,7 @@ impl Replayed {
 }
 
 // Makes the changes of all the bodies. Each body goes once its change is made.
-fn replay_all(
-    alloc: Global,
-    limits: Limits,
-    bodies: Rows<ByteList>,
-) -> Result<Replayed, OpenFault>
+fn replay_all(alloc: Global, limits: Limits, bodies: Rows<ByteList>) -> Result<Replayed, OpenFault>
     requires kept { 1 ≤ limits.kept }
     requires units { limits.units ≤ 2 ^ 51 }
     ensures replayed { IfOk result (λ replay. IsReplayed limits bodies (cache_of replay) replay.steps.items) }
