@@ -1,6 +1,5 @@
-use Rattle.std.proofs.Common.{◌≡◌, ℕ, List, ◌+◌, ◌-◌, ◌*◌, ◌/◌, ◌++◌, length, take, drop, ap, ◌∙◌, arith}
+use Rattle.std.proofs.Common.{◌≡◌, ℕ, List, ◌-◌, ◌*◌, ◌/◌, length, take, drop, ap, ◌∙◌, arith}
 use Rattle.std.proofs.lemmas.List.{length-drop, take_rest}
-use Rattle.blake3_hash.specs.Spine.{Holds, leaves}
 use Rattle.blake3_hash.proofs.Held.{IsHeld_tail}
 use Rattle.blake3_lanes.proofs.wide.absorb.Goals as goal
 

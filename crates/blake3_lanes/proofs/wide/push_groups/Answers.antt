@@ -1,4 +1,4 @@
-use Rattle.std.proofs.Common.{◌≡◌, ℕ, List, ◌+◌, ◌-◌, ◌*◌, ◌++◌, length, take, drop, ◌∙◌, sym, arith, add-zero, refl}
+use Rattle.std.proofs.Common.{◌≡◌, ℕ, List, ◌+◌, ◌*◌, ◌++◌, take, drop, ◌∙◌, sym, arith, add-zero, refl}
 use Rattle.blake3_hash.specs.Spine.{leaves}
 use Rattle.blake3_hash.proofs.Held.{leaves-append}
 use Rattle.blake3_hash.proofs.Leaves.{length-leaves}
