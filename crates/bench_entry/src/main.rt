@@ -10,7 +10,7 @@ ghost use Rattle.ddc_model.specs.Limits.{most_links};
 
 use cb_fields::{Link, LinkKind};
 use ddc_entry::{read_entry, write_entry};
-use ddc_model::{Entry, Stored};
+use ddc_model::{Entry, NameBox, Stored};
 use ddc_names::{Bucket, IoHash, Namespace, NoMemory, RefKey, RefName, RefSpot, Rows};
 use std::alloc::Global;
 use std::time::Instant;
@@ -30,18 +30,18 @@ fn links_of(alloc: Global, count: u64) -> Result<Rows<Link>, NoMemory> {
     Ok(links)
 }
 
-fn touched() -> Option<Entry> {
+fn touched(alloc: Global) -> Result<Option<Entry>, NoMemory> {
     let (Ok(space), Ok(bucket)) = (Namespace::parse("game"), Bucket::parse("ddc")) else {
-        return None;
+        return Ok(None);
     };
     let spot = RefSpot {
         bucket,
         key: RefKey([7; 20]),
     };
-    Some(Entry::Touch {
-        name: RefName { space, spot },
+    Ok(Some(Entry::Touch {
+        name: NameBox::new(alloc, RefName { space, spot })?,
         hour: 494_933,
-    })
+    }))
 }
 
 // How many bytes were written.
@@ -86,7 +86,7 @@ fn upload_of(links: Rows<Link>) -> Option<Entry> {
 // The entry with so many links.
 fn entry_of(alloc: Global, count: u64) -> Result<Option<Entry>, NoMemory> {
     if count == 0 {
-        return Ok(touched());
+        return touched(alloc);
     }
     Ok(upload_of(links_of(alloc, count)?))
 }

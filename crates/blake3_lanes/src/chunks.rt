@@ -91,13 +91,12 @@ fn start_flag(k: usize) -> u32
 
 // The values of four chunks; the four chunks in `next` are read meanwhile, so that they are in the cache when their
 // turn comes.
-fn chunks4(input: &[u8], first: u64, next: &[u8]) -> [[u32; 8]; 4]
+fn chunks4(hidden: &Hidden, input: &[u8], first: u64, next: &[u8]) -> [[u32; 8]; 4]
     requires len { length input.now ≡ 4096 }
     requires first { first ≤ 2 ^ 54 - 4 }
     requires next { length next.now ≡ 4096 }
     ensures { (j : ℕ) → j < 4 → slice_index_or result j [] ≡ chunk_value (take 1024 (drop (1024 * j) input.now)) (first + j) 0 }
 {
-    let hidden = Hidden::new();
     let low = low_words(first);
     let high = high_words(first);
     let mut h = start_values();
@@ -105,7 +104,7 @@ fn chunks4(input: &[u8], first: u64, next: &[u8]) -> [[u32; 8]; 4]
     'each_block: for k in 0..15 {
         read |= read_ahead(next, 256 * k);
         h = compress(
-            &hidden,
+            hidden,
             &h,
             &columns(input, 64 * k),
             low,
@@ -114,8 +113,8 @@ fn chunks4(input: &[u8], first: u64, next: &[u8]) -> [[u32; 8]; 4]
             start_flag(k),
         );
     }
-    let low = kept(&hidden, low, read);
-    rows(&compress(&hidden, &h, &columns(input, 960), low, high, 64, 2))
+    let low = kept(hidden, low, read);
+    rows(&compress(hidden, &h, &columns(input, 960), low, high, 64, 2))
 }
 
 /// The values of the eight chunks of the input, none of which is the root; `first` is the number of the first one.
@@ -124,18 +123,23 @@ pub fn chunks8(input: &[u8], first: u64) -> [[u32; 8]; 8]
     requires first { first ≤ 2 ^ 54 - 8 }
     ensures { result ≡ leaves 8 input.now first }
 {
-    chunks8_before(input, first, &input[4096..])
+    chunks8_before(&Hidden::new(), input, first, &input[4096..])
 }
 
 // The same, with the four chunks that are read next.
-pub(crate) fn chunks8_before(input: &[u8], first: u64, next: &[u8]) -> [[u32; 8]; 8]
+pub(crate) fn chunks8_before(
+    hidden: &Hidden,
+    input: &[u8],
+    first: u64,
+    next: &[u8],
+) -> [[u32; 8]; 8]
     requires len { length input.now ≡ 8192 }
     requires first { first ≤ 2 ^ 54 - 8 }
     requires next { length next.now ≡ 4096 }
     ensures { result ≡ leaves 8 input.now first }
 {
-    let front = chunks4(&input[..4096], first, &input[4096..]);
-    let back = chunks4(&input[4096..], first + 4, next);
+    let front = chunks4(hidden, &input[..4096], first, &input[4096..]);
+    let back = chunks4(hidden, &input[4096..], first + 4, next);
     [
         front[0], front[1], front[2], front[3], back[0], back[1], back[2], back[3],
     ]

@@ -43,11 +43,11 @@ fn messages(left: &[[u32; 8]; 4], right: &[[u32; 8]; 4]) -> [u32x4; 16]
     ]
 }
 
-fn parents4(left: &[[u32; 8]; 4], right: &[[u32; 8]; 4]) -> [[u32; 8]; 4]
+fn parents4(hidden: &Hidden, left: &[[u32; 8]; 4], right: &[[u32; 8]; 4]) -> [[u32; 8]; 4]
     ensures { (j : ℕ) → j < 4 → slice_index_or result j [] ≡ parent_value (slice_index_or left.now j []) (slice_index_or right.now j []) 0 }
 {
     rows(&compress(
-        &Hidden::new(),
+        hidden,
         &start_values(),
         &messages(left, right),
         splat(0),
@@ -61,11 +61,14 @@ fn parents4(left: &[[u32; 8]; 4], right: &[[u32; 8]; 4]) -> [[u32; 8]; 4]
 pub fn parents8(left: &[[u32; 8]; 8], right: &[[u32; 8]; 8]) -> [[u32; 8]; 8]
     ensures { (k : ℕ) → k < 8 → slice_index_or result k [] ≡ parent_value (slice_index_or left.now k []) (slice_index_or right.now k []) 0 }
 {
+    let hidden = Hidden::new();
     let front = parents4(
+        &hidden,
         &[left[0], left[1], left[2], left[3]],
         &[right[0], right[1], right[2], right[3]],
     );
     let back = parents4(
+        &hidden,
         &[left[4], left[5], left[6], left[7]],
         &[right[4], right[5], right[6], right[7]],
     );
@@ -74,17 +77,38 @@ pub fn parents8(left: &[[u32; 8]; 8], right: &[[u32; 8]; 8]) -> [[u32; 8]; 8]
     ]
 }
 
-// The value of the tree over eight values, which isn't the root.
-pub(crate) fn subtree8(values: &[[u32; 8]; 8]) -> [u32; 8]
-    ensures { result ≡ joined 3 values.now 0 }
+// The values of the two halves of a tree over eight values, and of a parent that waited for a free lane.
+#[derive(Clone, Copy)]
+pub(crate) struct Halves {
+    pub(crate) halves: [[u32; 8]; 2],
+    pub(crate) waited: [u32; 8],
+}
+
+// The halves of the tree over eight values, and beside them the parent of the two values in `before`.
+pub(crate) fn halves8(hidden: &Hidden, values: &[[u32; 8]; 8], before: &[[u32; 8]; 2]) -> Halves
+    ensures halves { parent_value (slice_index_or result.halves 0 []) (slice_index_or result.halves 1 []) 0 ≡ joined 3 values.now 0 }
+    ensures waited { result.waited ≡ parent_value (slice_index_or before.now 0 []) (slice_index_or before.now 1 []) 0 }
 {
     let low = parents4(
+        hidden,
         &[values[0], values[2], values[4], values[6]],
         &[values[1], values[3], values[5], values[7]],
     );
     let high = parents4(
-        &[low[0], low[2], low[0], low[2]],
-        &[low[1], low[3], low[1], low[3]],
+        hidden,
+        &[low[0], low[2], before[0], before[0]],
+        &[low[1], low[3], before[1], before[1]],
     );
-    parent_value(&high[0], &high[1])
+    Halves {
+        halves: [high[0], high[1]],
+        waited: high[2],
+    }
+}
+
+// The value of the tree over eight values, which isn't the root.
+pub(crate) fn subtree8(hidden: &Hidden, values: &[[u32; 8]; 8]) -> [u32; 8]
+    ensures { result ≡ joined 3 values.now 0 }
+{
+    let halves = halves8(hidden, values, &[values[0], values[1]]).halves;
+    parent_value(&halves[0], &halves[1])
 }

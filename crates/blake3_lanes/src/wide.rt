@@ -1,13 +1,14 @@
 // A message taken in piece by piece, eight chunks at a time.
-ghost use Rattle.std.specs.Prelude.{◌≡◌, ℕ, ◌+◌, ◌-◌, ◌*◌, ◌/◌, ◌%◌, ◌^◌, ◌<◌, ◌≤◌, ◌++◌, List, [], length, take};
+ghost use Rattle.std.specs.Prelude.{◌≡◌, ℕ, ◌+◌, ◌-◌, ◌*◌, ◌/◌, ◌%◌, ◌^◌, ◌<◌, ◌≤◌, ◌++◌, List, [], length, take, drop};
 ghost use Rattle.tree_hash.specs.TreeHash.{blake3};
 ghost use Rattle.blake3_hash.specs.Spine.{IsPushed, leaves};
 ghost use Rattle.blake3_hash.specs.Fed.{IsHeld};
 ghost use Rattle.blake3_lanes.specs.WideFed.{IsWideFed, wide_length};
 
 use crate::chunks::{chunks8, chunks8_before};
-use crate::parents::subtree8;
-use blake3_hash::{Spine, chunk_value};
+use crate::parents::{halves8, subtree8};
+use crate::vectors::Hidden;
+use blake3_hash::{Spine, chunk_value, parent_value};
 use std::marker::Model;
 
 /// The hash of a message that is fed in pieces, computed eight chunks at a time. A clause speaks of the bytes fed by
@@ -103,7 +104,7 @@ fn push_values(spine: &mut Spine, values: &[[u32; 8]; 8])
     ensures count { spine.new.count ≡ spine.old.count + 8 }
     ensures pushed { (xs : List (List ℕ)) → IsPushed spine.old xs → IsPushed spine.new (xs ++ values.now) }
 {
-    spine.push_subtree(&subtree8(values), 3);
+    spine.push_subtree(&subtree8(&Hidden::new(), values), 3);
 }
 
 // The values of the first `whole` chunks of the buffer; what else it has is counted in where it is quicker.
@@ -147,6 +148,44 @@ fn four_chunks(bytes: &[u8], at: usize) -> &[u8]
     }
 }
 
+// The values of the eight chunks from byte 8,192 `k` on; those behind them are read meanwhile.
+fn group_values(hidden: &Hidden, bytes: &[u8], number: u64, k: usize) -> [[u32; 8]; 8]
+    requires inside { 8192 * k + 8192 ≤ length bytes.now }
+    requires number { 1024 * number + length bytes.now < 2 ^ 64 }
+    ensures { result ≡ leaves 8 (take 8192 (drop (8192 * k) bytes.now)) (number + 8 * k) }
+{
+    let group = &bytes[8192 * k..8192 * k + 8192];
+    let next = four_chunks(bytes, 8192 * k + 8192);
+    chunks8_before(hidden, group, number + 8 * k as u64, next)
+}
+
+// Puts the values of the first `groups` groups of eight chunks on a spine of `number` values. The last parent of a
+// group waits for a free lane beside the next group's.
+fn push_groups(spine: &mut Spine, number: u64, bytes: &[u8], groups: usize)
+    requires number { number ≡ spine.old.count }
+    requires aligned { number % 8 ≡ 0 }
+    requires inside { 8192 * groups ≤ length bytes.now }
+    requires room { 1024 * spine.old.count + length bytes.now < 2 ^ 64 }
+    requires more { spine.old.count + 8 * groups < 2 ^ 54 }
+    ensures count { spine.new.count ≡ spine.old.count + 8 * groups }
+    ensures pushed { (m : List ℕ) → 1024 * spine.old.count ≡ length m → IsPushed spine.old (leaves spine.old.count m 0)
+        → IsPushed spine.new (leaves (spine.old.count + 8 * groups) (m ++ bytes.now) 0) }
+{
+    if groups == 0 {
+        return;
+    }
+    let hidden = Hidden::new();
+    let first = group_values(&hidden, bytes, number, 0);
+    let mut halves = halves8(&hidden, &first, &[first[0], first[1]]).halves;
+    'groups: for k in 0..groups - 1 {
+        let values = group_values(&hidden, bytes, number, k + 1);
+        let tree = halves8(&hidden, &values, &halves);
+        spine.push_subtree(&tree.waited, 3);
+        halves = tree.halves;
+    }
+    spine.push_subtree(&parent_value(&halves[0], &halves[1]), 3);
+}
+
 // Takes in bytes behind `number` whole chunks: all but the last 1 to 8,192 go on the spine, and these go to the front
 // of the buffer. Gives their number.
 fn absorb(spine: &mut Spine, buffer: &mut [u8; 8192], number: u64, bytes: &[u8]) -> usize
@@ -160,12 +199,7 @@ fn absorb(spine: &mut Spine, buffer: &mut [u8; 8192], number: u64, bytes: &[u8])
         → IsHeld spine.new.levels spine.new.count buffer.new result (m ++ bytes.now) }
 {
     let groups = (bytes.len() - 1) / 8192;
-    'groups: for k in 0..groups {
-        let group = &bytes[8192 * k..8192 * k + 8192];
-        let next = four_chunks(bytes, 8192 * k + 8192);
-        let values = chunks8_before(group, number + 8 * k as u64, next);
-        push_values(spine, &values);
-    }
+    push_groups(spine, number, bytes, groups);
     let tail = &bytes[8192 * groups..];
     buffer[..tail.len()].copy_from_slice(tail);
     tail.len()

@@ -1,6 +1,5 @@
 -- What one more body leads to.
-use Rattle.std.proofs.Common.{◌≡◌, ℕ, ◌+◌, ◌<◌, List, [], ◌∷◌, ◌++◌, length, get_or, take, drop, sym, ◌∙◌, ap, subst, arith, append_assoc, length-append, take-append-drop}
-use Rattle.std.proofs.lemmas.List.{take_more}
+use Rattle.std.proofs.Common.{◌≡◌, ℕ, ◌+◌, List, [], ◌∷◌, ◌++◌, length, refl, sym, ◌∙◌, ap, subst, arith, length-append}
 use Rattle.std.specs.Prelude.{None, Some, Option, IfSome}
 use Rattle.std.specs.Int.{to_le_bytes, w32}
 use Rattle.ddc_journal.specs.Journal.{framed, items}
@@ -56,10 +55,7 @@ replayed_none has sound limits cache steps is none = record {
   unbroken = ap broken_by none;
 }
 
--- the item at a place
-pub next : (xs : List (List ℕ)) (i : ℕ) (x : List ℕ) → i < length xs → x ≡ get_or xs i x → take (i + 1) xs ≡ take i xs ++ x ∷ []
-next xs i x lt is = take_more xs i x lt ∙ ap (λ (y : List ℕ). take i xs ++ y ∷ []) (sym is)
-
-pub around : (xs : List (List ℕ)) (i : ℕ) (x : List ℕ) → i < length xs → x ≡ get_or xs i x → xs ≡ take i xs ++ x ∷ drop (i + 1) xs
-around xs i x lt is =
-    sym (take-append-drop (i + 1) xs) ∙ ap (λ (l : List (List ℕ)). l ++ drop (i + 1) xs) (next xs i x lt is) ∙ append_assoc (take i xs) (x ∷ []) (drop (i + 1) xs)
+-- where no item is left
+pub none_left : (bodies : List (List ℕ)) → length bodies ≡ 0 → bodies ≡ []
+none_left [] is = refl
+none_left (body ∷ bodies) is = absurd (omega (arith, is))

@@ -7,3 +7,4 @@ pub mod Replaying
 pub mod Found
 pub mod Loading
 pub mod Laws
+pub mod Tied

@@ -20,7 +20,7 @@ use crate::history::{History, added_links_of};
 use cb_fields::Link;
 use ddc_disk::{Devices, Disk, HeldDevices};
 use ddc_journal::Journal;
-use ddc_model::{Entry, Step, StoreFault, Stored, What};
+use ddc_model::{Entry, NameBox, Step, StoreFault, Stored, What};
 use ddc_names::{IoHash, Namespace, NoMemory, RefName, Rows};
 use ddc_state::Index;
 use needs_resolver::{needs, needs_with};
@@ -177,13 +177,21 @@ impl<D: Disk> Book<D> {
     }
 
     // A reference that was read at an earlier hour is touched.
-    pub(crate) fn touch_entry(&self, name: &RefName, hour: u32) -> Option<Entry>
-        ensures { result ≡ touch_entry self.now.cache.index name.now hour }
+    pub(crate) fn touch_entry(
+        &self,
+        alloc: Global,
+        name: &RefName,
+        hour: u32,
+    ) -> Result<Option<Entry>, NoMemory>
+        ensures { IfOk result (λ made. made ≡ touch_entry self.now.cache.index name.now hour) }
     {
         let hour = self.hour_of(hour);
         match self.index.refs().get(name) {
-            Some(slot) if slot.seen < hour => Some(Entry::Touch { name: *name, hour }),
-            _ => None,
+            Some(slot) if slot.seen < hour => {
+                let name = NameBox::new(alloc, *name)?;
+                Ok(Some(Entry::Touch { name, hour }))
+            }
+            _ => Ok(None),
         }
     }
 

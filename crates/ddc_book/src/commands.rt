@@ -16,7 +16,7 @@ ghost use Rattle.ddc_book.specs.View.{faults_of};
 
 use crate::{Book, Held};
 use ddc_disk::Disk;
-use ddc_model::{Entry, StoreFault, Stored};
+use ddc_model::{Entry, NameBox, StoreFault, Stored};
 use ddc_names::{IoHash, Namespace, NoMemory, RefName, Rows};
 use ddc_state::Checked;
 use std::alloc::Global;
@@ -167,7 +167,10 @@ impl<D: Disk> Book<D> {
             Err(fault) => return Err(fault),
         };
         let held = Held { hash, bytes };
-        match self.touch(name, hour) {
+        let Ok(touch) = self.touch(alloc, name, hour) else {
+            return Err(StoreFault::NoMemory);
+        };
+        match touch {
             None => Ok(held),
             Some(entry) => match self.commit(alloc, entry, None) {
                 Ok(()) => Ok(held),
@@ -196,8 +199,11 @@ impl<D: Disk> Book<D> {
         if self.added_refs(name) == 1 {
             return Err(StoreFault::NotFound);
         }
+        let Ok(name) = NameBox::new(alloc, *name) else {
+            return Err(StoreFault::NoMemory);
+        };
         let entry = Entry::Delete {
-            name: *name,
+            name,
             hour: self.hour_of(hour),
         };
         self.make(alloc, entry, None, ())
@@ -269,21 +275,22 @@ impl<D: Disk> Book<D> {
     // An object is finalised at once where nothing is missing.
     fn put_entry(
         &self,
+        alloc: Global,
         name: &RefName,
         root: IoHash,
         fresh: Option<Stored>,
         missing: &Rows<IoHash>,
         hour: u32,
-    ) -> Entry
-        ensures { result ≡ Put name.now root fresh (is_empty missing.now) (hour_of self.now.cache.index hour) }
+    ) -> Result<Entry, NoMemory>
+        ensures { IfOk result (λ entry. entry ≡ Put name.now root fresh (is_empty missing.now) (hour_of self.now.cache.index hour)) }
     {
-        Entry::Put {
-            name: *name,
+        Ok(Entry::Put {
+            name: NameBox::new(alloc, *name)?,
             root,
             fresh,
             whole: missing.len() == 0,
             hour: self.hour_of(hour),
-        }
+        })
     }
 
     // Puts an object that isn't there.
@@ -312,7 +319,9 @@ impl<D: Disk> Book<D> {
         let Ok(missing) = self.missing_with(alloc, &name.space, root, object.links()) else {
             return Err(StoreFault::NoMemory);
         };
-        let entry = self.put_entry(name, root, Some(fresh), &missing, hour);
+        let Ok(entry) = self.put_entry(alloc, name, root, Some(fresh), &missing, hour) else {
+            return Err(StoreFault::NoMemory);
+        };
         self.make(alloc, entry, Some(object.into_whole()), missing)
     }
 
@@ -339,7 +348,9 @@ impl<D: Disk> Book<D> {
         let Ok(missing) = self.missing(alloc, &name.space, root) else {
             return Err(StoreFault::NoMemory);
         };
-        let entry = self.put_entry(name, root, None, &missing, hour);
+        let Ok(entry) = self.put_entry(alloc, name, root, None, &missing, hour) else {
+            return Err(StoreFault::NoMemory);
+        };
         self.make(alloc, entry, None, missing)
     }
 
@@ -361,8 +372,11 @@ impl<D: Disk> Book<D> {
             return Err(StoreFault::NoMemory);
         };
         if missing.len() == 0 {
+            let Ok(name) = NameBox::new(alloc, *name) else {
+                return Err(StoreFault::NoMemory);
+            };
             let entry = Entry::Finalise {
-                name: *name,
+                name,
                 hash,
                 hour: self.hour_of(hour),
             };
@@ -373,13 +387,15 @@ impl<D: Disk> Book<D> {
     }
 
     // A reference that was read at an earlier hour is touched, where the history has room for it.
-    fn touch(&self, name: &RefName, hour: u32) -> Option<Entry>
-        ensures { result ≡ touch_with_room self.now.cache.index (past_of self.now.steps) name.now hour }
+    fn touch(&self, alloc: Global, name: &RefName, hour: u32) -> Result<Option<Entry>, NoMemory>
+        ensures { IfOk result (λ made. made ≡ touch_with_room self.now.cache.index (past_of self.now.steps) name.now hour) }
     {
-        let entry = self.touch_entry(name, hour)?;
+        let Some(entry) = self.touch_entry(alloc, name, hour)? else {
+            return Ok(None);
+        };
         match self.no_room(&entry) {
-            None => Some(entry),
-            Some(_) => None,
+            None => Ok(Some(entry)),
+            Some(_) => Ok(None),
         }
     }
 }

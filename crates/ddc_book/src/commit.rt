@@ -61,7 +61,7 @@ fn added_name(entry: &Entry) -> Option<BlobName>
         }),
         Entry::Put { name, fresh, .. } => match fresh {
             Some(blob) => Some(BlobName {
-                space: name.space,
+                space: name.get().space,
                 hash: blob.hash,
             }),
             None => None,

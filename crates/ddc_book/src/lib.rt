@@ -21,9 +21,13 @@ mod reads;
 mod replay;
 #[cfg(test)]
 mod tests;
+mod tied;
+#[cfg(test)]
+mod tied_tests;
 
 pub use book::Book;
 pub use ddc_model::{Step, StoreFault, What};
 pub use fault::OpenFault;
 pub use laws::one_opening;
 pub use reads::{Held, Opened};
+pub use tied::{Opening, Tied};

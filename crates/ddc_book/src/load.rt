@@ -67,7 +67,7 @@ fn open<D: Disk>(
         Ok(found) => found,
         Err(fault) => return Err(fault_of(fault)),
     };
-    let replayed = match replay(alloc, limits, bodies.as_slice()) {
+    let replayed = match replay(alloc, limits, bodies) {
         Ok(replayed) => replayed,
         Err(fault) => return Err(fault),
     };

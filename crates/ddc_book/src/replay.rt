@@ -11,7 +11,7 @@ use crate::OpenFault;
 use crate::bytes::ByteTable;
 use ddc_entry::read_front;
 use ddc_model::{BlobName, Entry, Limits, Step, Stored, commands_keep_whole, commands_stay_sound};
-use ddc_names::{ByteList, Namespace, NoMemory};
+use ddc_names::{ByteList, Namespace, NoMemory, Rows};
 use ddc_state::Index;
 use io_hash::{Intake, Whole};
 use needs_resolver::first_unsound;
@@ -91,7 +91,7 @@ fn keep(alloc: Global, table: &mut ByteTable, entry: &Entry, bytes: &[u8]) -> Re
             name,
             fresh: Some(blob),
             ..
-        } => keep_blob(alloc, table, &name.space, blob, bytes),
+        } => keep_blob(alloc, table, &name.get().space, blob, bytes),
         _ => Ok(()),
     }
 }
@@ -128,18 +128,23 @@ impl Replayed {
     }
 }
 
-// Makes the changes of all the bodies.
-fn replay_all(alloc: Global, limits: Limits, bodies: &[ByteList]) -> Result<Replayed, OpenFault>
+// Makes the changes of all the bodies. Each body goes once its change is made.
+fn replay_all(alloc: Global, limits: Limits, bodies: Rows<ByteList>) -> Result<Replayed, OpenFault>
     requires kept { 1 ≤ limits.kept }
     requires units { limits.units ≤ 2 ^ 51 }
-    ensures replayed { IfOk result (λ replay. IsReplayed limits bodies.now (cache_of replay) replay.steps.items) }
-    ensures fault { IfErr result (λ fault. ReplayFault limits bodies.now fault) }
+    ensures replayed { IfOk result (λ replay. IsReplayed limits bodies (cache_of replay) replay.steps.items) }
+    ensures fault { IfErr result (λ fault. ReplayFault limits bodies fault) }
 {
     commands_stay_sound();
     commands_keep_whole();
     let mut replay = Replayed::new(alloc, limits);
+    // Behind the changes stand the opening and, where the store breaks, the note of it.
+    let room = bodies.len().saturating_add(2);
+    if replay.steps.reserve_exact(room).is_err() {
+        return Err(OpenFault::NoMemory);
+    }
     let mut at = 21u64;
-    for body in bodies {
+    for body in bodies.into_vec() {
         match replay.make(alloc, body.as_slice()) {
             Ok(true) => {}
             Ok(false) => return Err(OpenFault::Corrupt { file: 0, at }),
@@ -154,13 +159,13 @@ fn replay_all(alloc: Global, limits: Limits, bodies: &[ByteList]) -> Result<Repl
 pub(crate) fn replay(
     alloc: Global,
     limits: Limits,
-    bodies: &[ByteList],
+    bodies: Rows<ByteList>,
 ) -> Result<Replayed, OpenFault>
     requires kept { 1 ≤ limits.kept }
     requires units { limits.units ≤ 2 ^ 51 }
-    ensures replayed { IfOk result (λ replay. IsReplayed limits bodies.now (cache_of replay) replay.steps.items) }
+    ensures replayed { IfOk result (λ replay. IsReplayed limits bodies (cache_of replay) replay.steps.items) }
     ensures whole { IfOk result (λ replay. AreWhole replay.index.state) }
-    ensures fault { IfErr result (λ fault. ReplayFault limits bodies.now fault) }
+    ensures fault { IfErr result (λ fault. ReplayFault limits bodies fault) }
 {
     let mut replay = replay_all(alloc, limits, bodies)?;
     match first_unsound(alloc, &mut replay.index) {

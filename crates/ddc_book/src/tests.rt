@@ -591,6 +591,7 @@ fn a_crash_leaves_the_changes_before_it(rt: HostRuntime) -> Result<(), Fail> {
     let (wrong, book) = first_wrong(alloc, made(alloc, Limits::standard(), None), &lines)?;
     assert_eq!(rt; wrong, None);
     let Some(book) = book else {
+        assert!(rt; false);
         return Ok(());
     };
     let first = book.into_devices().first;
@@ -628,6 +629,7 @@ fn a_store_whose_disk_failed_does_nothing_more(rt: HostRuntime) -> Result<(), Fa
     )?;
     assert_eq!(rt; wrong, None);
     let Some(book) = book else {
+        assert!(rt; false);
         return Ok(());
     };
     assert_eq!(rt; (book.count(), book.faults()), (4, 1));
@@ -652,14 +654,17 @@ fn bytes_that_were_changed_are_damaged(rt: HostRuntime) -> Result<(), Fail> {
     let (wrong, book) = first_wrong(alloc, made(alloc, Limits::standard(), None), &lines)?;
     assert_eq!(rt; wrong, None);
     let Some(book) = book else {
+        assert!(rt; false);
         return Ok(());
     };
     let mut devices = book.into_devices();
     let Ok(len) = devices.first.len() else {
+        assert!(rt; false);
         return Ok(());
     };
     assert_eq!(rt; devices.first.write_at(len.saturating_sub(2), b"b"), Ok(()));
     let Ok(mut book) = Book::load(alloc, devices, Limits::standard()) else {
+        assert!(rt; false);
         return Ok(());
     };
     let damaged = StoreFault::Damaged {
@@ -678,6 +683,7 @@ fn a_store_goes_from_thread_to_thread(rt: HostRuntime) -> Result<(), Fail> {
         made(alloc, Limits::standard(), None),
         made(alloc, Limits::standard(), None),
     ) else {
+        assert!(rt; false);
         return Ok(());
     };
     let (front, back) = join(&rt, || one.into_devices(), || other.into_devices());

@@ -36,6 +36,14 @@ impl<T: Drop> From<AllocFailed<T>> for Unread {
     }
 }
 
+impl From<ddc_names::NoMemory> for Unread {
+    ghost from_gives = { λ _ e. e ≡ NoMemory };
+
+    fn from(_: ddc_names::NoMemory) -> Unread {
+        Unread::NoMemory
+    }
+}
+
 #[tactic(auto, unfolding(crate::specs::Reading::four_at, crate::specs::Reading::bytes_at))]
 pub fn take_four(bytes: &[u8]) -> Result<(u32, &[u8]), Unread>
     ensures { Gives (λ x. (x.0, x.1.now)) result (four_at bytes.now) }

@@ -8,7 +8,7 @@ ghost use Rattle.ddc_entry.specs.Reading.{Gives, delete_at, entry_at, finalise_a
 use crate::parts::{
     Unread, take_flag, take_four, take_fresh, take_hash, take_ref_name, take_space, take_stored,
 };
-use ddc_model::Entry;
+use ddc_model::{Entry, NameBox};
 use ddc_names::NoMemory;
 use std::alloc::Global;
 
@@ -59,6 +59,7 @@ fn put_of(alloc: Global, bytes: &[u8]) -> Result<(Entry, &[u8]), Unread>
     let (fresh, rest) = take_fresh(alloc, rest)?;
     let (whole, rest) = take_flag(rest)?;
     let (hour, rest) = take_four(rest)?;
+    let name = NameBox::new(alloc, name)?;
     Ok((
         Entry::Put {
             name,
@@ -72,7 +73,7 @@ fn put_of(alloc: Global, bytes: &[u8]) -> Result<(Entry, &[u8]), Unread>
 }
 
 #[tactic(auto, unfolding(crate::specs::Reading::finalise_at))]
-fn finalise_of(bytes: &[u8]) -> Result<(Entry, &[u8]), Unread>
+fn finalise_of(alloc: Global, bytes: &[u8]) -> Result<(Entry, &[u8]), Unread>
     ensures { Gives (λ x. (x.0, x.1.now)) result (finalise_at bytes.now) }
 {
     let Some((name, rest)) = take_ref_name(bytes) else {
@@ -80,28 +81,31 @@ fn finalise_of(bytes: &[u8]) -> Result<(Entry, &[u8]), Unread>
     };
     let (hash, rest) = take_hash(rest)?;
     let (hour, rest) = take_four(rest)?;
+    let name = NameBox::new(alloc, name)?;
     Ok((Entry::Finalise { name, hash, hour }, rest))
 }
 
 #[tactic(auto, unfolding(crate::specs::Reading::delete_at))]
-fn delete_of(bytes: &[u8]) -> Result<(Entry, &[u8]), Unread>
+fn delete_of(alloc: Global, bytes: &[u8]) -> Result<(Entry, &[u8]), Unread>
     ensures { Gives (λ x. (x.0, x.1.now)) result (delete_at bytes.now) }
 {
     let Some((name, rest)) = take_ref_name(bytes) else {
         return Err(Unread::Refused);
     };
     let (hour, rest) = take_four(rest)?;
+    let name = NameBox::new(alloc, name)?;
     Ok((Entry::Delete { name, hour }, rest))
 }
 
 #[tactic(auto, unfolding(crate::specs::Reading::touch_at))]
-fn touch_of(bytes: &[u8]) -> Result<(Entry, &[u8]), Unread>
+fn touch_of(alloc: Global, bytes: &[u8]) -> Result<(Entry, &[u8]), Unread>
     ensures { Gives (λ x. (x.0, x.1.now)) result (touch_at bytes.now) }
 {
     let Some((name, rest)) = take_ref_name(bytes) else {
         return Err(Unread::Refused);
     };
     let (hour, rest) = take_four(rest)?;
+    let name = NameBox::new(alloc, name)?;
     Ok((Entry::Touch { name, hour }, rest))
 }
 
@@ -114,9 +118,9 @@ fn take_entry(alloc: Global, bytes: &[u8]) -> Result<(Entry, &[u8]), Unread>
         [0x02, rest @ ..] => upload_of(alloc, rest),
         [0x03, rest @ ..] => repin_of(rest),
         [0x04, rest @ ..] => put_of(alloc, rest),
-        [0x05, rest @ ..] => finalise_of(rest),
-        [0x06, rest @ ..] => delete_of(rest),
-        [0x07, rest @ ..] => touch_of(rest),
+        [0x05, rest @ ..] => finalise_of(alloc, rest),
+        [0x06, rest @ ..] => delete_of(alloc, rest),
+        [0x07, rest @ ..] => touch_of(alloc, rest),
         _ => Err(Unread::Refused),
     }
 }
@@ -126,7 +130,7 @@ fn take_entry(alloc: Global, bytes: &[u8]) -> Result<(Entry, &[u8]), Unread>
 ///
 /// # Errors
 ///
-/// `NoMemory` where there is none for the links of a blob.
+/// `NoMemory` where there is none for the links of a blob or the name of a reference.
 pub fn read_entry(alloc: Global, bytes: &[u8]) -> Result<Option<Entry>, NoMemory>
     ensures found_is_spelled { IfOk result (λ found. IfSome found (λ e. IsEntry e × (bytes.now ≡ spelling e))) }
     ensures spelled_is_found { IfOk result (λ found. (e : Entry) → IsEntry e → bytes.now ≡ spelling e → found ≡ Some e) }
@@ -148,7 +152,7 @@ pub fn read_entry(alloc: Global, bytes: &[u8]) -> Result<Option<Entry>, NoMemory
 ///
 /// # Errors
 ///
-/// `NoMemory` where there is none for the links of a blob.
+/// `NoMemory` where there is none for the links of a blob or the name of a reference.
 pub fn read_front(alloc: Global, bytes: &[u8]) -> Result<Option<(Entry, usize)>, NoMemory>
     ensures found_is_spelled { IfOk result (λ found. IfSome found (λ x. IsEntry x.0 × (x.1 ≡ length (spelling x.0)) × (bytes.now ≡ spelling x.0 ++ drop x.1 bytes.now))) }
     ensures spelled_is_found { IfOk result (λ found. (e : Entry) (rest : List ℕ) → IsEntry e → bytes.now ≡ spelling e ++ rest → found ≡ Some (e, length (spelling e))) }

@@ -6,7 +6,7 @@ ghost use Rattle.ddc_model.specs.Limits.{most_links};
 
 use crate::{one_entry, one_front, read_entry, read_front, write_entry, written_then_read};
 use cb_fields::{Link, LinkKind};
-use ddc_model::{Entry, Stored};
+use ddc_model::{Entry, NameBox, Stored};
 use ddc_names::{Bucket, IoHash, Namespace, NoMemory, RefKey, RefName, RefSpot, Rows};
 use std::alloc::Global;
 use std::test::Fail;
@@ -15,14 +15,15 @@ fn space_of() -> Result<Namespace, Fail> {
     Ok(Namespace::parse("game")?)
 }
 
-fn name_of() -> Result<RefName, Fail> {
-    Ok(RefName {
+fn name_of(alloc: Global) -> Result<NameBox, Fail> {
+    let name = RefName {
         space: Namespace::parse("game")?,
         spot: RefSpot {
             bucket: Bucket::parse("ddc")?,
             key: RefKey(*b"kkkkkkkkkkkkkkkkkkkk"),
         },
-    })
+    };
+    Ok(NameBox::new(alloc, name)?)
 }
 
 // Five bytes at the unit 258, with a link of each kind.
@@ -98,7 +99,7 @@ fn a_repin_has_the_hash(rt: HostRuntime) -> Result<(), Fail> {
 #[test]
 fn a_put_says_whether_its_blob_is_fresh_and_whole(rt: HostRuntime) -> Result<(), Fail> {
     let pinned = Entry::Put {
-        name: name_of()?,
+        name: name_of(rt.alloc())?,
         root: IoHash(*b"rrrrrrrrrrrrrrrrrrrr"),
         fresh: None,
         whole: true,
@@ -107,7 +108,7 @@ fn a_put_says_whether_its_blob_is_fresh_and_whole(rt: HostRuntime) -> Result<(),
     let spelled = b"\x04\x04game\x03ddckkkkkkkkkkkkkkkkkkkkrrrrrrrrrrrrrrrrrrrr\0\x01\x01\0\0\0";
     assert!(rt; is_spelled(rt.alloc(), &pinned, spelled)?);
     let fresh = Entry::Put {
-        name: name_of()?,
+        name: name_of(rt.alloc())?,
         root: IoHash(*b"hhhhhhhhhhhhhhhhhhhh"),
         fresh: Some(blob_of(rt.alloc())?),
         whole: false,
@@ -122,20 +123,20 @@ fn a_put_says_whether_its_blob_is_fresh_and_whole(rt: HostRuntime) -> Result<(),
 #[test]
 fn the_other_changes_of_a_reference_have_its_name(rt: HostRuntime) -> Result<(), Fail> {
     let finalise = Entry::Finalise {
-        name: name_of()?,
+        name: name_of(rt.alloc())?,
         hash: IoHash(*b"hhhhhhhhhhhhhhhhhhhh"),
         hour: 9,
     };
     let spelled = b"\x05\x04game\x03ddckkkkkkkkkkkkkkkkkkkkhhhhhhhhhhhhhhhhhhhh\x09\0\0\0";
     assert!(rt; is_spelled(rt.alloc(), &finalise, spelled)?);
     let delete = Entry::Delete {
-        name: name_of()?,
+        name: name_of(rt.alloc())?,
         hour: 9,
     };
     let spelled = b"\x06\x04game\x03ddckkkkkkkkkkkkkkkkkkkk\x09\0\0\0";
     assert!(rt; is_spelled(rt.alloc(), &delete, spelled)?);
     let touch = Entry::Touch {
-        name: name_of()?,
+        name: name_of(rt.alloc())?,
         hour: 9,
     };
     let spelled = b"\x07\x04game\x03ddckkkkkkkkkkkkkkkkkkkk\x09\0\0\0";
@@ -211,7 +212,7 @@ fn what_is_written_is_read_again(rt: HostRuntime) -> Result<(), Fail> {
     one_entry();
     one_front();
     let entry = Entry::Delete {
-        name: name_of()?,
+        name: name_of(rt.alloc())?,
         hour: 7,
     };
     let read = written_then_read(rt.alloc(), &entry)?;

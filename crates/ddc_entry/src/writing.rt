@@ -258,10 +258,10 @@ fn push_entry(out: &mut Vec<u8>, entry: &Entry) -> Result<(), AllocError>
             fresh,
             whole,
             hour,
-        } => push_put(out, name, root, fresh, *whole, *hour)?,
-        Entry::Finalise { name, hash, hour } => push_finalise(out, name, hash, *hour)?,
-        Entry::Delete { name, hour } => push_delete(out, name, *hour)?,
-        Entry::Touch { name, hour } => push_touch(out, name, *hour)?,
+        } => push_put(out, name.get(), root, fresh, *whole, *hour)?,
+        Entry::Finalise { name, hash, hour } => push_finalise(out, name.get(), hash, *hour)?,
+        Entry::Delete { name, hour } => push_delete(out, name.get(), *hour)?,
+        Entry::Touch { name, hour } => push_touch(out, name.get(), *hour)?,
     }
     Ok(())
 }

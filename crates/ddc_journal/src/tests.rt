@@ -56,9 +56,7 @@ fn a_crash_behind_each_call_of_an_append_leaves_the_body_or_not(
 ) -> Result<(), Fail> {
     let alloc = rt.alloc();
     let mut disk = disk(alloc, &[])?;
-    let Ok(mut journal) = Journal::create(&mut disk, 1) else {
-        return Ok(());
-    };
+    let mut journal = Journal::create(&mut disk, 1)?;
     let before = disk.calls();
     let item = Framed::new(alloc, &[0xab])?;
     assert!(rt; journal.append(&mut disk, &item).is_ok());
@@ -85,9 +83,7 @@ fn a_crash_behind_each_call_of_an_append_leaves_the_body_or_not(
 fn each_image_of_an_append_over_two_letters_loads_to_a_prefix(rt: HostRuntime) -> Result<(), Fail> {
     let alloc = rt.alloc();
     let mut disk = disk(alloc, &[])?;
-    let Ok(mut journal) = Journal::create(&mut disk, 1) else {
-        return Ok(());
-    };
+    let mut journal = Journal::create(&mut disk, 1)?;
     let before = disk.calls();
     let item = Framed::new(alloc, &[0xab])?;
     assert!(rt; journal.append(&mut disk, &item).is_ok());
@@ -112,9 +108,7 @@ fn a_call_that_fails_in_an_append_leaves_a_journal_that_loads(rt: HostRuntime) -
     let before = made.calls();
     for call in 0..4u64 {
         let mut disk = disk(alloc, &[before.wrapping_add(call)])?;
-        let Ok(mut journal) = Journal::create(&mut disk, 1) else {
-            return Ok(());
-        };
+        let mut journal = Journal::create(&mut disk, 1)?;
         let item = Framed::new(alloc, &[0xab])?;
         assert!(rt; journal.append(&mut disk, &item) == Err(JournalFault::DiskFailed));
         assert_eq!(rt; disk.faults(), 1);
@@ -156,9 +150,7 @@ fn a_journal_on_a_file_gives_its_bodies_back(rt: HostRuntime) -> Result<(), Fail
     let _ = fs::remove_dir_all(&rt, folder);
     fs::create_dir(&rt, folder)?;
     let mut disk = FileDisk::at_path(rt, alloc, "ddc_journal_test/first")?;
-    let Ok(mut journal) = Journal::create(&mut disk, 3) else {
-        return Ok(());
-    };
+    let mut journal = Journal::create(&mut disk, 3)?;
     for _ in 0..3u64 {
         assert!(rt;
             journal

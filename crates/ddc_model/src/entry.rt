@@ -1,8 +1,8 @@
 //! The entries of a store's history.
 
-use crate::Limits;
+use crate::{Limits, NameBox};
 use cb_fields::Link;
-use ddc_names::{IoHash, Namespace, RefName, Rows};
+use ddc_names::{IoHash, Namespace, Rows};
 
 /// A blob as an entry adds it.
 #[derive(Debug, Drop)]
@@ -40,7 +40,7 @@ pub enum Entry {
     /// A reference gets an object, which is added or pinned. Where the object and all that it reaches
     /// is there it is finalised, and otherwise pending.
     Put {
-        name: RefName,
+        name: NameBox,
         root: IoHash,
         fresh: Option<Stored>,
         whole: bool,
@@ -48,18 +48,18 @@ pub enum Entry {
     },
     /// A pending object is finalised.
     Finalise {
-        name: RefName,
+        name: NameBox,
         hash: IoHash,
         hour: u32,
     },
     /// A reference is taken away.
     Delete {
-        name: RefName,
+        name: NameBox,
         hour: u32,
     },
     /// A reference was read.
     Touch {
-        name: RefName,
+        name: NameBox,
         hour: u32,
     },
 }

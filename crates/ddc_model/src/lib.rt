@@ -2,13 +2,16 @@
 //!
 //! `specs/` has the state, which entries are legal in it and what each leaves, the closure of an
 //! object over its attachments, and what each command answers. The types here are those that the
-//! definitions speak of, and nothing here runs but the constants.
+//! definitions speak of, and nothing here runs but the constants and the names on the heap.
 #![tactic(auto)]
 
 mod entry;
 mod fault;
 mod laws;
+mod name_box;
 mod rows;
+#[cfg(test)]
+mod tests;
 
 pub use entry::{Entry, Step, Stored};
 pub use fault::{StoreFault, What};
@@ -16,4 +19,5 @@ pub use laws::{
     commands_keep_whole, commands_stay_sound, entries_are_legal, links_fit, one_content,
     one_list_of_needs, whole_stays_whole,
 };
+pub use name_box::NameBox;
 pub use rows::{Blob, BlobName, BlobRow, Extent, Limits, SpaceRow};

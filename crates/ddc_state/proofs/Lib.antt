@@ -1,3 +1,4 @@
 pub mod Given
+pub mod Nesting
 pub mod Counting
 pub mod Undo

@@ -5,32 +5,34 @@ ghost use Rattle.std.specs.FinMap as map;
 ghost use Rattle.ddc_model.specs.Entries.{pinned};
 ghost use Rattle.ddc_model.specs.Counts.{links_of_all};
 
+use crate::blob_map::BlobMap;
+use crate::packed::PackedBlob;
 use ddc_model::{Blob, BlobName};
 use ddc_names::NoMemory;
 use std::alloc::Global;
-use std::collections::BTreeMap;
 use std::marker::Model;
 
 // Contracts see the finite map. How many links the blobs have in all is kept beside it.
 #[derive(Drop)]
 pub(crate) struct BlobTable {
-    blobs: BTreeMap<BlobName, Blob>,
+    blobs: BlobMap<PackedBlob>,
     links: u64,
 }
 
 impl Model for BlobTable {
+    ghost use Rattle.std.specs.Prelude.{◌≡◌};
     ghost use Rattle.std.specs.FinMap as map;
     ghost use Rattle.ddc_model.specs.declared.rows.Blob.{Blob};
+    ghost use Rattle.ddc_model.specs.Counts.{links_of_all};
     ghost use Rattle.ddc_model.specs.Keys.{blob_cmp, coded_blob_name, coded_blob};
-    ghost use Rattle.ddc_state.specs.Counted.{blobs_of, AreCounted};
 
     ghost Value = { map.FinMap blob_cmp Blob };
 
     ghost coded = { map.code coded_blob_name coded_blob };
 
-    ghost view = { λ table. blobs_of table.blobs.entries };
+    ghost view = { λ table. table.blobs };
 
-    ghost invariant = { λ table. AreCounted table.blobs.entries table.links };
+    ghost invariant = { λ table. links_of_all (map.entries table.blobs) ≡ table.links };
 }
 
 impl BlobTable {
@@ -38,12 +40,12 @@ impl BlobTable {
         ensures { result ≡ map.empty }
     {
         BlobTable {
-            blobs: BTreeMap::new(alloc),
+            blobs: BlobMap::new(alloc),
             links: 0,
         }
     }
 
-    pub(crate) fn get(&self, name: &BlobName) -> Option<&Blob>
+    pub(crate) fn get(&self, name: &BlobName) -> Option<&PackedBlob>
         ensures { option_copied result ≡ map.get self.now name.now }
     {
         self.blobs.get(name)
@@ -52,7 +54,7 @@ impl BlobTable {
     pub(crate) fn has(&self, name: &BlobName) -> bool
         ensures { result ≡ is_some (map.get self.now name.now) }
     {
-        self.blobs.contains_key(name)
+        self.blobs.has(name)
     }
 
     // Adds a blob that isn't there.
@@ -64,7 +66,7 @@ impl BlobTable {
         let Some(links) = self.links.checked_add(blob.links.len() as u64) else {
             return Err(NoMemory);
         };
-        self.blobs.insert(*name, blob)?;
+        self.blobs.insert(name, PackedBlob::of(blob))?;
         self.links = links;
         Ok(())
     }
@@ -74,7 +76,7 @@ impl BlobTable {
         ensures { self.new ≡ pinned self.old name.now hour (map.get self.old name.now) }
     {
         if let Some(blob) = self.blobs.get_mut(name) {
-            blob.row.at = blob.row.at.max(hour);
+            blob.pin(hour);
         }
     }
 
@@ -82,14 +84,14 @@ impl BlobTable {
         ensures { self.new ≡ map.remove self.old name.now }
     {
         if let Some(blob) = self.blobs.remove(name) {
-            self.links -= blob.links.len() as u64;
+            self.links -= blob.links().len() as u64;
         }
     }
 
     pub(crate) fn len(&self) -> u64
         ensures { result ≡ map.len self.now }
     {
-        self.blobs.len() as u64
+        self.blobs.len()
     }
 
     pub(crate) fn link_count(&self) -> u64

@@ -12,9 +12,10 @@ mod changes;
 mod legal;
 
 use crate::blobs::BlobTable;
+use crate::packed::PackedBlob;
 use crate::spaces::SpaceTable;
 use cb_fields::Link;
-use ddc_model::{Blob, BlobName, BlobRow, Entry, Limits, SpaceRow};
+use ddc_model::{BlobName, BlobRow, Entry, Limits, SpaceRow};
 use ddc_names::{IoHash, Namespace, NoMemory};
 use legal::is_time_of;
 use ref_store::RefTable;
@@ -79,14 +80,22 @@ impl Index {
                 root,
                 fresh,
                 ..
-            } => self.spaces.has(&name.space) && self.takes_root(&name.space, root, fresh),
+            } => {
+                let space = &name.get().space;
+                self.spaces.has(space) && self.takes_root(space, root, fresh)
+            }
             Entry::Finalise { name, hash, .. } => {
+                let name = name.get();
                 self.spaces.has(&name.space) && self.waits_for(name, hash)
             }
             Entry::Delete { name, .. } => {
+                let name = name.get();
                 self.spaces.has(&name.space) && self.refs.get(name).is_some()
             }
-            Entry::Touch { name, .. } => self.spaces.has(&name.space) && self.serves(name),
+            Entry::Touch { name, .. } => {
+                let name = name.get();
+                self.spaces.has(&name.space) && self.serves(name)
+            }
         }
     }
 
@@ -115,13 +124,13 @@ impl Index {
                 fresh,
                 whole,
                 hour,
-            } => self.apply_put(alloc, name, root, fresh, *whole, *hour),
-            Entry::Finalise { name, hash, hour } => self.apply_finalise(name, hash, *hour),
+            } => self.apply_put(alloc, name.get(), root, fresh, *whole, *hour),
+            Entry::Finalise { name, hash, hour } => self.apply_finalise(name.get(), hash, *hour),
             Entry::Delete { name, hour } => {
-                self.apply_delete(name, *hour);
+                self.apply_delete(name.get(), *hour);
                 Ok(())
             }
-            Entry::Touch { name, hour } => self.apply_touch(name, *hour),
+            Entry::Touch { name, hour } => self.apply_touch(name.get(), *hour),
         }
     }
 
@@ -141,7 +150,7 @@ impl Index {
     {
         let Read { counted: () } = read;
         match self.found(space, hash) {
-            Some(blob) => blob.links.as_slice(),
+            Some(blob) => blob.links(),
             None => &[],
         }
     }
@@ -151,7 +160,7 @@ impl Index {
         ensures { result ≡ option_map (λ blob. blob.row) (blob_at self.now.state space.now hash.now) }
     {
         match self.found(space, hash) {
-            Some(blob) => Some(blob.row),
+            Some(blob) => Some(blob.row()),
             None => None,
         }
     }
@@ -212,7 +221,7 @@ impl Index {
         self.reads
     }
 
-    fn found(&self, space: &Namespace, hash: &IoHash) -> Option<&Blob>
+    fn found(&self, space: &Namespace, hash: &IoHash) -> Option<&PackedBlob>
         ensures { option_copied result ≡ blob_at self.now.state space.now hash.now }
     {
         self.blobs.get(&BlobName {

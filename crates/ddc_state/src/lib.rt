@@ -2,14 +2,19 @@
 //! change them. `ddc_model` defines the state, and what each entry leaves.
 #![tactic(auto)]
 
+mod blob_map;
+#[cfg(test)]
+mod blob_map_tests;
 mod blobs;
 mod checked;
 mod index;
+mod packed;
 #[cfg(test)]
 mod plain;
 mod spaces;
 #[cfg(test)]
 mod tests;
 
+pub use blob_map::BlobMap;
 pub use checked::Checked;
 pub use index::{Index, Read};

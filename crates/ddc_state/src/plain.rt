@@ -46,13 +46,15 @@ impl Plain {
                 fresh,
                 ..
             } => {
-                self.has_space(&name.space)
+                let space = &name.get().space;
+                self.has_space(space)
                     && match fresh {
-                        Some(blob) => blob.hash == *root && self.is_new(&name.space, blob),
-                        None => self.has_blob(&name.space, root),
+                        Some(blob) => blob.hash == *root && self.is_new(space, blob),
+                        None => self.has_blob(space, root),
                     }
             }
             Entry::Finalise { name, hash, .. } => {
+                let name = name.get();
                 self.has_space(&name.space)
                     && match self.slot(name) {
                         Some(slot) => slot.pending == Some(*hash),
@@ -60,9 +62,11 @@ impl Plain {
                     }
             }
             Entry::Delete { name, .. } => {
+                let name = name.get();
                 self.has_space(&name.space) && self.slot(name).is_some()
             }
             Entry::Touch { name, .. } => {
+                let name = name.get();
                 self.has_space(&name.space)
                     && match self.slot(name) {
                         Some(slot) => slot.done.is_some(),
@@ -97,6 +101,7 @@ impl Plain {
                 whole,
                 hour,
             } => {
+                let name = name.get();
                 match fresh {
                     Some(blob) => self.store(alloc, &name.space, blob, *hour)?,
                     None => self.pin(&name.space, root, *hour),
@@ -119,14 +124,16 @@ impl Plain {
                     pending: None,
                     seen: *hour,
                 };
-                self.set(name, slot)?;
+                self.set(name.get(), slot)?;
                 self.hour = self.hour.max(*hour);
             }
             Entry::Delete { name, hour } => {
+                let name = name.get();
                 self.slots.retain(|row| row.0 != *name);
                 self.hour = self.hour.max(*hour);
             }
             Entry::Touch { name, hour } => {
+                let name = name.get();
                 if let Some(slot) = self.slot(name) {
                     self.set(
                         name,

@@ -5,7 +5,7 @@ ghost use Rattle.std.specs.Prelude.{◌<◌, max};
 use crate::plain::Plain;
 use crate::{Checked, Index};
 use cb_fields::{Link, LinkKind};
-use ddc_model::{BlobRow, Entry, Extent, Limits, SpaceRow, Stored};
+use ddc_model::{BlobRow, Entry, Extent, Limits, NameBox, SpaceRow, Stored};
 use ddc_names::{Bucket, IoHash, Namespace, NoMemory, RefKey, RefName, RefSpot, Rows};
 use io_hash::{Intake, Whole};
 use ref_store::Slot;
@@ -64,14 +64,21 @@ fn upload_of(space: Namespace, blob: Stored) -> Entry {
     }
 }
 
-fn put_of(name: RefName, root: u8, fresh: Option<Stored>, whole: bool, hour: u32) -> Entry {
-    Entry::Put {
-        name,
+fn put_of(
+    alloc: Global,
+    name: RefName,
+    root: u8,
+    fresh: Option<Stored>,
+    whole: bool,
+    hour: u32,
+) -> Result<Entry, NoMemory> {
+    Ok(Entry::Put {
+        name: NameBox::new(alloc, name)?,
         root: hash_of(root),
         fresh,
         whole,
         hour,
-    }
+    })
 }
 
 // Whether the entry fits; then its change is made.
@@ -197,7 +204,7 @@ fn leaves(
 #[test]
 fn a_pending_object_waits_beside_the_finalised_one(rt: HostRuntime) -> Result<(), Fail> {
     let mut index = index_with_blob(rt.alloc())?;
-    let whole = put_of(name_of("game", 7)?, 1, None, true, 101);
+    let whole = put_of(rt.alloc(), name_of("game", 7)?, 1, None, true, 101)?;
     assert!(rt;
         leaves(
             rt.alloc(),
@@ -208,7 +215,7 @@ fn a_pending_object_waits_beside_the_finalised_one(rt: HostRuntime) -> Result<()
         )?
     );
     let fresh = stored_of(rt.alloc(), 3, 8192, &[link_to(LinkKind::Binary, 9)])?;
-    let pending = put_of(name_of("game", 7)?, 3, Some(fresh), false, 95);
+    let pending = put_of(rt.alloc(), name_of("game", 7)?, 3, Some(fresh), false, 95)?;
     assert!(rt;
         leaves(
             rt.alloc(),
@@ -261,14 +268,14 @@ fn a_put_fits_with_a_present_root_or_a_fresh_one(rt: HostRuntime) -> Result<(), 
     let index = index_with_blob(rt.alloc())?;
     for (root, fits) in [(1, true), (2, false)] {
         assert_eq!(rt;
-            index.fits(&put_of(name_of("game", 7)?, root, None, false, 0)),
+            index.fits(&put_of(rt.alloc(), name_of("game", 7)?, root, None, false, 0)?),
             fits
         );
     }
     for (root, fresh, fits) in [(2, 2, true), (2, 3, false), (1, 1, false)] {
         let blob = stored_of(rt.alloc(), fresh, 1, &[])?;
         assert_eq!(rt;
-            index.fits(&put_of(name_of("game", 7)?, root, Some(blob), false, 0)),
+            index.fits(&put_of(rt.alloc(), name_of("game", 7)?, root, Some(blob), false, 0)?),
             fits
         );
     }
@@ -284,13 +291,22 @@ fn repin_of(space: Namespace, number: u8) -> Entry {
     }
 }
 
-fn finalise_of(name: RefName, number: u8) -> Entry {
-    let hash = hash_of(number);
-    Entry::Finalise {
-        name,
-        hash,
+fn finalise_of(alloc: Global, name: RefName, number: u8) -> Result<Entry, NoMemory> {
+    Ok(Entry::Finalise {
+        name: NameBox::new(alloc, name)?,
+        hash: hash_of(number),
         hour: 0,
-    }
+    })
+}
+
+fn delete_of(alloc: Global, name: RefName) -> Result<Entry, NoMemory> {
+    let name = NameBox::new(alloc, name)?;
+    Ok(Entry::Delete { name, hour: 0 })
+}
+
+fn touch_of(alloc: Global, name: RefName) -> Result<Entry, NoMemory> {
+    let name = NameBox::new(alloc, name)?;
+    Ok(Entry::Touch { name, hour: 0 })
 }
 
 #[test]
@@ -299,15 +315,21 @@ fn what_an_entry_names_has_to_be_there(rt: HostRuntime) -> Result<(), Fail> {
     let name = name_of("game", 7)?;
     assert!(rt; index.fits(&repin_of(space_of("game")?, 1)));
     assert!(rt; !index.fits(&repin_of(space_of("game")?, 2)));
-    assert!(rt; !index.fits(&finalise_of(name, 1)));
-    assert!(rt; !index.fits(&Entry::Delete { name, hour: 0 }));
-    assert!(rt; !index.fits(&Entry::Touch { name, hour: 0 }));
+    assert!(rt; !index.fits(&finalise_of(rt.alloc(), name, 1)?));
+    assert!(rt; !index.fits(&delete_of(rt.alloc(), name)?));
+    assert!(rt; !index.fits(&touch_of(rt.alloc(), name)?));
     // a reference whose object is pending can be finalised and taken away, and isn't served
-    assert!(rt; apply(rt.alloc(), &mut index, &put_of(name, 1, None, false, 0))?);
-    assert!(rt; index.fits(&finalise_of(name, 1)));
-    assert!(rt; !index.fits(&finalise_of(name, 2)));
-    assert!(rt; index.fits(&Entry::Delete { name, hour: 0 }));
-    assert!(rt; !index.fits(&Entry::Touch { name, hour: 0 }));
+    assert!(rt;
+        apply(
+            rt.alloc(),
+            &mut index,
+            &put_of(rt.alloc(), name, 1, None, false, 0)?
+        )?
+    );
+    assert!(rt; index.fits(&finalise_of(rt.alloc(), name, 1)?));
+    assert!(rt; !index.fits(&finalise_of(rt.alloc(), name, 2)?));
+    assert!(rt; index.fits(&delete_of(rt.alloc(), name)?));
+    assert!(rt; !index.fits(&touch_of(rt.alloc(), name)?));
     Ok(())
 }
 
@@ -360,11 +382,12 @@ impl Draw {
         space_of(if self.below(4) == 0 { "other" } else { "game" })
     }
 
-    fn name(&mut self) -> Result<RefName, Fail> {
-        name_of(
+    fn name(&mut self, alloc: Global) -> Result<NameBox, Fail> {
+        let name = name_of(
             if self.below(4) == 0 { "other" } else { "game" },
             self.below(3) as u8,
-        )
+        )?;
+        Ok(NameBox::new(alloc, name)?)
     }
 
     fn blob(&mut self, alloc: Global, hash: IoHash) -> Result<Stored, Fail> {
@@ -399,16 +422,16 @@ impl Draw {
                 hour,
             },
             3 => Entry::Finalise {
-                name: self.name()?,
+                name: self.name(alloc)?,
                 hash,
                 hour,
             },
             4 => Entry::Delete {
-                name: self.name()?,
+                name: self.name(alloc)?,
                 hour,
             },
             5 => Entry::Touch {
-                name: self.name()?,
+                name: self.name(alloc)?,
                 hour,
             },
             _ => {
@@ -418,7 +441,7 @@ impl Draw {
                     Some(self.blob(alloc, hash)?)
                 };
                 Entry::Put {
-                    name: self.name()?,
+                    name: self.name(alloc)?,
                     root: hash,
                     fresh,
                     whole: self.below(2) == 0,

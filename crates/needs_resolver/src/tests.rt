@@ -3,7 +3,7 @@
 use crate::plain::{PlainBlob, missing, object};
 use crate::{first_unsound, needs, needs_with};
 use cb_fields::{Link, LinkKind};
-use ddc_model::{Entry, Limits, Stored};
+use ddc_model::{Entry, Limits, NameBox, Stored};
 use ddc_names::{Bucket, IoHash, Namespace, NoMemory, RefKey, RefName, RefSpot, Rows};
 use ddc_state::Index;
 use std::alloc::Global;
@@ -247,7 +247,7 @@ fn put(
     whole: bool,
 ) -> Result<(), NoMemory> {
     let entry = Entry::Put {
-        name,
+        name: NameBox::new(alloc, name)?,
         root: hash_of(root),
         fresh: None,
         whole,

@@ -12,6 +12,6 @@ returns-in-Err-clause-err c =
     let absent = adds_new c.args.index.now.state c.args.entry c.requires.legal name (sym c.in-Some-added_name.ensures) in
     let none = no_bytes (record { index = c.args.index.now.state; bytes = old }) c.requires.has_bytes name absent in (
       c.in-Err.ensures.err.0,
-      c.remove.ensures ∙ ap (λ (m : map.FinMap blob_cmp (List ℕ)). map.remove m name) c.in_ok-insert.ensures.ok ∙ put_undone blob_cmp blob_total blob_exact old name c.in-Some.whole none,
+      c.remove.ensures.gone ∙ ap (λ (m : map.FinMap blob_cmp (List ℕ)). map.remove m name) c.in_ok-insert.ensures.ok ∙ put_undone blob_cmp blob_total blob_exact old name c.in-Some.whole none,
       c.in-Err.ensures.err.1,
     )

@@ -1,8 +1,8 @@
-use Rattle.std.proofs.Common.{◌≡◌, ℕ, List, inr, sym, ◌∙◌, ap, subst, arith}
+use Rattle.std.proofs.Common.{◌≡◌, inr, sym, ◌∙◌, ap, subst, arith}
 use Rattle.std.specs.Prelude.{IfSome}
 use Rattle.ddc_model.specs.Sound.{Cache, AreWhole}
 use Rattle.ddc_book.specs.Opening.{Holds}
-use Rattle.ddc_book.specs.Replaying.{cache_of, IsReplayed, ReplayFault}
+use Rattle.ddc_book.specs.Replaying.{cache_of}
 use Rattle.ddc_book.specs.Found.{view_of}
 use Rattle.ddc_book.proofs.Loading.{fault_told, holds_told, ready_told}
 use Rattle.ddc_book.proofs.OpenedBook.{limits_stay}
@@ -12,18 +12,16 @@ pub returns-in-Err-replay-clause-fault : goal.returns-in-Err-replay-clause-fault
 returns-in-Err-replay-clause-fault g c =
     let first = c.args.devices.now.first in
     let bodies = c.in-Ok.found.1 in
-    let fault = subst (λ (l : List (List ℕ)). ReplayFault c.args.limits l c.in-Err-replay.fault) c.as_slice.ensures c.in-Err-replay.ensures.fault in
-    inr (fault_told c.args.limits bodies c.in-Ok.found.0 (g.D.Disk.meaning first).held (g.met.D.Disk.small first) c.in-Ok.ensures.loads c.in-Err-replay.fault fault)
+    inr (fault_told c.args.limits bodies c.in-Ok.found.0 (g.D.Disk.meaning first).held (g.met.D.Disk.small first) c.in-Ok.ensures.loads c.in-Err-replay.fault c.in-Err-replay.ensures.fault)
 
 pub opened-requires : goal.opened-requires
 opened-requires g c =
     let first = c.args.devices.now.first in
     let bodies = c.in-Ok.found.1 in
-    let replayed = c.in-Ok-replay.replayed in
     record {
       bodies = bodies;
       ready = λ tell. ready_told (g.D.Disk.meaning first).held (g.D.Disk.meaning c.read_journal.new.devices.first) bodies c.in-Ok.found.0 (g.met.D.Disk.told first tell) c.in-Ok.ensures.ready;
-      replayed = subst (λ (l : List (List ℕ)). IsReplayed c.args.limits l (cache_of replayed) replayed.steps.items) c.as_slice.ensures c.in-Ok-replay.ensures.replayed;
+      replayed = c.in-Ok-replay.ensures.replayed;
       whole = c.in-Ok-replay.ensures.whole;
     }
 
@@ -32,7 +30,7 @@ returns-in-Ok-opened-clause-loaded g c =
     let first = c.args.devices.now.first in
     let bodies = c.in-Ok.found.1 in
     let cache = cache_of c.in-Ok-replay.replayed in
-    let replayed = subst (λ (l : List (List ℕ)). IsReplayed c.args.limits l cache c.in-Ok-replay.replayed.steps.items) c.as_slice.ensures c.in-Ok-replay.ensures.replayed in
+    let replayed = c.in-Ok-replay.ensures.replayed in
     let view = view_of c.read_journal.new.devices c.in-Ok-opened.parts in
     let same : view.cache ≡ cache = c.in-Ok-opened.ensures.cache in
     record {

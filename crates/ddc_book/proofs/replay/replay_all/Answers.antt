@@ -1,56 +1,60 @@
-use Rattle.std.proofs.Common.{ℕ, ◌+◌, ◌<◌, ◌≤◌, List, length, take, drop, refl, sym, ap, subst, arith}
-use Rattle.std.proofs.lemmas.List.{take_all}
-use Rattle.ddc_journal.specs.Journal.{items}
+use Rattle.std.proofs.Common.{◌≡◌, ℕ, ◌+◌, List, [], ◌∷◌, ◌++◌, length, refl, sym, ◌∙◌, ap, subst, arith, append_assoc, append-nil}
+use Rattle.std.specs.Vec.Iter.{into_iter_items}
 use Rattle.ddc_book.specs.Opening.{IsNoChange}
 use Rattle.ddc_book.specs.Replaying.{cache_of, IsReplayed, Makes}
-use Rattle.ddc_book.proofs.Replaying.{around, items_more, next, replayed_none, replayed_push}
+use Rattle.ddc_book.proofs.Replaying.{items_more, none_left, replayed_none, replayed_push}
 use Rattle.ddc_book.proofs.replay.replay_all.Goals as goal
 
 pub loop-body-init : goal.loop-body-init
-loop-body-init c = record {
-  replayed = replayed_none c.commands_keep_whole.ensures.sound c.commands_stay_sound.ensures.empty c.args.limits (cache_of c.new-replay.result) c.new-replay.result.steps.items c.new-replay.ensures.cache c.new-replay.ensures.steps;
-  place = refl;
-}
+loop-body-init c =
+    let given = c.into_iter-body-iterator.ensures.into_iter_gives in
+    record {
+      all = given.0 ∙ c.into_vec-body-items.ensures;
+      left = omega (arith, given.1, c.into_vec-body-items.result.ok.0, ap length given.0);
+      replayed = replayed_none c.commands_keep_whole.ensures.sound c.commands_stay_sound.ensures.empty c.args.limits (cache_of c.new-replay.result) c.reserve_exact.new.self.items c.new-replay.ensures.cache (c.reserve_exact.ensures.items ∙ c.new-replay.ensures.steps);
+      place = refl;
+    }
 
 pub loop-body-preserved : goal.loop-body-preserved
 loop-body-preserved c =
-    let i = c.loop-body.body-index in
-    let xs = c.args.bodies.now in
-    let x = c.body-item.result in
-    let lt : i < length xs = omega arith in
-    let more = next xs i x lt c.body-item.is in
-    let old = c.loop-body.replay in
+    let begun = c.loop-body in
+    let x = c.in-Some.body in
+    let rest = into_iter_items c.next.new.self in
+    let given : into_iter_items begun.body-iterator ≡ x ∷ rest = c.in-Some.ensures.steps.0 in
+    let old = begun.replay in
     let new = c.make.new.self in
     let made = rw c.in-Ok-true.field-0-test at c.in-Ok-true.ensures in
     let makes : Makes x (cache_of old) (cache_of new) old.steps.items new.steps.items = subst (λ (l : List ℕ). Makes l (cache_of old) (cache_of new) old.steps.items new.steps.items) c.as_slice.ensures made in
     record {
-      replayed = subst (λ (l : List (List ℕ)). IsReplayed c.args.limits l (cache_of new) new.steps.items) (sym more)
-          (replayed_push c.commands_keep_whole.ensures.bytes c.args.limits (take i xs) x (cache_of old) (cache_of new) old.steps.items new.steps.items c.loop-body.invariant.replayed makes);
-      place = omega (arith, c.saturating_add-at.ensures, c.saturating_add.ensures, c.len.ensures, c.loop-body.invariant.place, items_more (take i xs) x, ap (λ (l : List (List ℕ)). length (items l)) more);
+      all = append_assoc begun.yielded (x ∷ []) rest ∙ ap (λ (l : List (List ℕ)). begun.yielded ++ l) (sym given) ∙ begun.invariant.all;
+      left = omega (arith, c.in-Some.ensures.steps.1, ap length given, begun.invariant.left);
+      replayed = replayed_push c.commands_keep_whole.ensures.bytes c.args.limits begun.yielded x (cache_of old) (cache_of new) old.steps.items new.steps.items begun.invariant.replayed makes;
+      place = omega (arith, c.saturating_add-at.ensures, c.saturating_add.ensures, c.len.ensures, begun.invariant.place, items_more begun.yielded x);
     }
 
 pub returns-in-Ok-false-clause-fault : goal.returns-in-Ok-false-clause-fault
 returns-in-Ok-false-clause-fault c =
-    let i = c.loop-body.body-index in
-    let xs = c.args.bodies.now in
-    let x = c.body-item.result in
-    let lt : i < length xs = omega arith in
+    let begun = c.loop-body in
+    let x = c.in-Some.body in
+    let rest = into_iter_items c.next.new.self in
+    let given : into_iter_items begun.body-iterator ≡ x ∷ rest = c.in-Some.ensures.steps.0 in
     let none = rw c.in-Ok-false.field-0-test at c.in-Ok-false.ensures in (
       refl,
       record {
-        good = take i xs;
+        good = begun.yielded;
         bad = x;
-        others = drop (i + 1) xs;
-        cache = cache_of c.loop-body.replay;
-        split = around xs i x lt c.body-item.is;
-        leads = c.loop-body.invariant.replayed.leads;
-        no_change = subst (λ (l : List ℕ). IsNoChange c.loop-body.replay.index.state l) c.as_slice.ensures none;
-        place = c.loop-body.invariant.place;
+        others = rest;
+        cache = cache_of begun.replay;
+        split = sym begun.invariant.all ∙ ap (λ (l : List (List ℕ)). begun.yielded ++ l) given;
+        leads = begun.invariant.replayed.leads;
+        no_change = subst (λ (l : List ℕ). IsNoChange begun.replay.index.state l) c.as_slice.ensures none;
+        place = begun.invariant.place;
       },
     )
 
 pub returns-clause-replayed : goal.returns-clause-replayed
 returns-clause-replayed c =
-    let xs = c.args.bodies.now in
-    let end : length xs ≤ c.loop-body.body-index = omega arith in
-    subst (λ (l : List (List ℕ)). IsReplayed c.args.limits l (cache_of c.loop-body.replay) c.loop-body.replay.steps.items) (take_all c.loop-body.body-index xs end) c.loop-body.invariant.replayed
+    let ended = c.loop-body in
+    let empty : into_iter_items ended.body-iterator ≡ [] = none_left (into_iter_items ended.body-iterator) (sym ended.invariant.left ∙ c.in-None.ensures.steps.0) in
+    let all : ended.yielded ≡ c.args.bodies = sym (append-nil ended.yielded) ∙ ap (λ (l : List (List ℕ)). ended.yielded ++ l) (sym empty) ∙ ended.invariant.all in
+    subst (λ (l : List (List ℕ)). IsReplayed c.args.limits l (cache_of ended.replay) ended.replay.steps.items) all ended.invariant.replayed

@@ -1,4 +1,5 @@
 use Rattle.std.proofs.Common.{◌≡◌, ap, sym, ◌∙◌, subst, [], Ok, None, ℕ, refl}
+use Rattle.ddc_names.specs.declared.reference.RefName.{RefName}
 use Rattle.ddc_model.specs.declared.entry.Entry.TheVariants.{Finalise}
 use Rattle.ddc_model.specs.Commands.{hour_of, FinaliseAs}
 use Rattle.ddc_model.specs.History.{past_of, WithRoom}
@@ -17,18 +18,20 @@ make-requires-clause-fit g c =
     let same = c.missing.ensures.same in
     let now : c.hour_of.result ≡ hour_of s c.args.hour = c.hour_of.ensures ∙ ap (λ (b : BookView g.row.D.Denot). hour_of b.cache.index c.args.hour) same in
     let makes = finalise_makes s name c.args.hash c.args.hour c.requires.pending c.in-Ok.missing c.in-Ok.ensures.needs (sym c.len.ensures ∙ c.if-len-eq0.true) c.hour_of.result now in
-    subst (λ (b : BookView g.row.D.Denot). IsFit b.cache (Finalise name c.args.hash c.hour_of.result) None) (sym same)
-    (finalise_fit c.args.self.now.cache c.requires.serves.whole name c.args.hash c.args.hour c.hour_of.result c.in-Ok.missing c.requires.pending makes)
+    subst (λ (n : RefName). IsFit c.missing.new.self.cache (Finalise n c.args.hash c.hour_of.result) None) (sym c.in-Ok-new.ensures)
+    (subst (λ (b : BookView g.row.D.Denot). IsFit b.cache (Finalise name c.args.hash c.hour_of.result) None) (sym same)
+    (finalise_fit c.args.self.now.cache c.requires.serves.whole name c.args.hash c.args.hour c.hour_of.result c.in-Ok.missing c.requires.pending makes))
 
-pub returns-then-len-eq0-clause-gives : goal.returns-then-len-eq0-clause-gives
-returns-then-len-eq0-clause-gives g c =
+pub returns-in-Ok-new-clause-gives : goal.returns-in-Ok-new-clause-gives
+returns-in-Ok-new-clause-gives g c =
     let s = c.args.self.now.cache.index in
     let name = c.args.name.now in
     let same = c.missing.ensures.same in
     let now : c.hour_of.result ≡ hour_of s c.args.hour = c.hour_of.ensures ∙ ap (λ (b : BookView g.row.D.Denot). hour_of b.cache.index c.args.hour) same in
     let makes = finalise_makes s name c.args.hash c.args.hour c.requires.pending c.in-Ok.missing c.in-Ok.ensures.needs (sym c.len.ensures ∙ c.if-len-eq0.true) c.hour_of.result now in
     gives c.args.self.now c.make.new.self [] (Finalise name c.args.hash c.hour_of.result) c.in-Ok.missing (FinaliseAs s name c.args.hash c.args.hour) makes [] refl c.make.result
-    (subst (λ (b : BookView g.row.D.Denot). Gives b [] c.make.new.self (InRoom b (Finalise name c.args.hash c.hour_of.result) c.in-Ok.missing) c.make.result) same c.make.ensures.gives)
+    (subst (λ (b : BookView g.row.D.Denot). Gives b [] c.make.new.self (InRoom b (Finalise name c.args.hash c.hour_of.result) c.in-Ok.missing) c.make.result) same
+    (subst (λ (n : RefName). Gives c.missing.new.self [] c.make.new.self (InRoom c.missing.new.self (Finalise n c.args.hash c.hour_of.result) c.in-Ok.missing) c.make.result) c.in-Ok-new.ensures c.make.ensures.gives))
 
 pub returns-else-len-eq0-clause-gives : goal.returns-else-len-eq0-clause-gives
 returns-else-len-eq0-clause-gives g c =

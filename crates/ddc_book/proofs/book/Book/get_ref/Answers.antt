@@ -46,7 +46,7 @@ commit-requires-clause-fit g c =
     let Answers : Result Held StoreFault → Option Entry → Type 0 = λ answer made. HeldAs cache past name c.args.hour (got answer) made in
     let is = sym c.in-Ok.ensures.hash in
     let found = gets cache serves.whole serves.has_bytes name c.args.hour c.in-Ok.hash is in
-    let touch = (room_of cache serves.whole serves.has_bytes past name c.args.hour c.in-Some-touch.entry c.in-Some-touch.ensures).1 in
+    let touch = (room_of cache serves.whole serves.has_bytes past name c.args.hour c.in-Some-touch.entry (sym c.in-Some-touch.is ∙ c.in-Ok-touch.ensures)).1 in
     touch_fit cache serves.whole name c.in-Ok.hash c.args.hour found.0 c.in-Some-touch.entry is touch
     (subst (λ (made : Option Entry). GetAs cache name c.args.hour (Ok (c.in-Ok.hash, found.0)) made) (sym touch) found.2)
 
@@ -58,7 +58,7 @@ commit-requires-clause-room g c =
     let serves = (c.in_default.ensures.serves (sym c.in_default.ensures.count)) in
     let past = past_of old.steps in
     let Answers : Result Held StoreFault → Option Entry → Type 0 = λ answer made. HeldAs cache past name c.args.hour (got answer) made in
-    (room_of cache serves.whole serves.has_bytes past name c.args.hour c.in-Some-touch.entry c.in-Some-touch.ensures).0
+    (room_of cache serves.whole serves.has_bytes past name c.args.hour c.in-Some-touch.entry (sym c.in-Some-touch.is ∙ c.in-Ok-touch.ensures)).0
 
 pub returns-in-None-clause-gives : goal.returns-in-None-clause-gives
 returns-in-None-clause-gives g c =
@@ -69,7 +69,7 @@ returns-in-None-clause-gives g c =
     let past = past_of old.steps in
     let Answers : Result Held StoreFault → Option Entry → Type 0 = λ answer made. HeldAs cache past name c.args.hour (got answer) made in
     answered old [] Answers serves.unbroken (record { hash = c.in-Ok.hash; bytes = c.in-Ok-copied.bytes })
-    (held_served cache serves.whole serves.has_bytes past name c.args.hour c.in-Ok.hash (sym c.in-Ok.ensures.hash) c.in-Ok-copied.bytes (was_served c.in-Ok-copied.bytes (serve cache name.space c.in-Ok.hash) c.in-Ok-copied.ensures) None c.in-None.ensures)
+    (held_served cache serves.whole serves.has_bytes past name c.args.hour c.in-Ok.hash (sym c.in-Ok.ensures.hash) c.in-Ok-copied.bytes (was_served c.in-Ok-copied.bytes (serve cache name.space c.in-Ok.hash) c.in-Ok-copied.ensures) None (sym c.in-None.is ∙ c.in-Ok-touch.ensures))
 
 pub returns-in-Ok-commit-clause-gives : goal.returns-in-Ok-commit-clause-gives
 returns-in-Ok-commit-clause-gives g c =
@@ -80,7 +80,7 @@ returns-in-Ok-commit-clause-gives g c =
     let past = past_of old.steps in
     let Answers : Result Held StoreFault → Option Entry → Type 0 = λ answer made. HeldAs cache past name c.args.hour (got answer) made in
     committed old c.commit.new.self [] c.in-Some-touch.entry (record { hash = c.in-Ok.hash; bytes = c.in-Ok-copied.bytes }) Answers
-    (held_served cache serves.whole serves.has_bytes past name c.args.hour c.in-Ok.hash (sym c.in-Ok.ensures.hash) c.in-Ok-copied.bytes (was_served c.in-Ok-copied.bytes (serve cache name.space c.in-Ok.hash) c.in-Ok-copied.ensures) (Some c.in-Some-touch.entry) c.in-Some-touch.ensures)
+    (held_served cache serves.whole serves.has_bytes past name c.args.hour c.in-Ok.hash (sym c.in-Ok.ensures.hash) c.in-Ok-copied.bytes (was_served c.in-Ok-copied.bytes (serve cache name.space c.in-Ok.hash) c.in-Ok-copied.ensures) (Some c.in-Some-touch.entry) (sym c.in-Some-touch.is ∙ c.in-Ok-touch.ensures))
     c.in-Ok-commit.ensures.gives
 
 pub returns-in-Err-commit-clause-gives : goal.returns-in-Err-commit-clause-gives
@@ -92,5 +92,5 @@ returns-in-Err-commit-clause-gives g c =
     let past = past_of old.steps in
     let Answers : Result Held StoreFault → Option Entry → Type 0 = λ answer made. HeldAs cache past name c.args.hour (got answer) made in
     not_committed old c.commit.new.self [] c.in-Some-touch.entry (record { hash = c.in-Ok.hash; bytes = c.in-Ok-copied.bytes }) Answers
-    (held_served cache serves.whole serves.has_bytes past name c.args.hour c.in-Ok.hash (sym c.in-Ok.ensures.hash) c.in-Ok-copied.bytes (was_served c.in-Ok-copied.bytes (serve cache name.space c.in-Ok.hash) c.in-Ok-copied.ensures) (Some c.in-Some-touch.entry) c.in-Some-touch.ensures)
+    (held_served cache serves.whole serves.has_bytes past name c.args.hour c.in-Ok.hash (sym c.in-Ok.ensures.hash) c.in-Ok-copied.bytes (was_served c.in-Ok-copied.bytes (serve cache name.space c.in-Ok.hash) c.in-Ok-copied.ensures) (Some c.in-Some-touch.entry) (sym c.in-Some-touch.is ∙ c.in-Ok-touch.ensures))
     c.in-Err-commit.fault c.in-Err-commit.ensures.gives

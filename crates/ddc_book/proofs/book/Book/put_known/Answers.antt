@@ -31,9 +31,9 @@ make-requires-clause-fit g c =
     let object = c.args.object.now in
     let same = c.missing.ensures.same in
     let there = mapped (λ (blob : Blob). blob.row.at) (blob_at s name.space (named object.bytes)) ∙ c.requires.there in
-    let entry = c.put_entry-entry.result in
+    let entry = c.in-Ok-put_entry.entry in
     let is : entry ≡ Put name c.hash_of-root.result None (is_empty c.in-Ok.missing) (hour_of s c.args.hour) =
-    c.put_entry-entry.ensures ∙ ap (λ (b : BookView g.row.D.Denot). Put name c.hash_of-root.result None (is_empty c.in-Ok.missing) (hour_of b.cache.index c.args.hour)) same in
+    c.in-Ok-put_entry.ensures ∙ ap (λ (b : BookView g.row.D.Denot). Put name c.hash_of-root.result None (is_empty c.in-Ok.missing) (hour_of b.cache.index c.args.hour)) same in
     let makes = known_put c.args.self.now.cache name object c.args.hour c.requires.known there c.added_refs.result c.added_refs.ensures c.in_default.ensures.fault
     c.in-Ok.missing c.hash_of-root.result c.hash_of-root.ensures.hash c.in-Ok.ensures.needs entry is in
     let brings : Brings (fresh_of entry) None = subst (λ (e : Entry). Brings (fresh_of e) None) (sym is) tt in
@@ -48,9 +48,9 @@ returns-clause-gives g c =
     let object = c.args.object.now in
     let same = c.missing.ensures.same in
     let there = mapped (λ (blob : Blob). blob.row.at) (blob_at s name.space (named object.bytes)) ∙ c.requires.there in
-    let entry = c.put_entry-entry.result in
+    let entry = c.in-Ok-put_entry.entry in
     let is : entry ≡ Put name c.hash_of-root.result None (is_empty c.in-Ok.missing) (hour_of s c.args.hour) =
-    c.put_entry-entry.ensures ∙ ap (λ (b : BookView g.row.D.Denot). Put name c.hash_of-root.result None (is_empty c.in-Ok.missing) (hour_of b.cache.index c.args.hour)) same in
+    c.in-Ok-put_entry.ensures ∙ ap (λ (b : BookView g.row.D.Denot). Put name c.hash_of-root.result None (is_empty c.in-Ok.missing) (hour_of b.cache.index c.args.hour)) same in
     let makes = known_put c.args.self.now.cache name object c.args.hour c.requires.known there c.added_refs.result c.added_refs.ensures c.in_default.ensures.fault
     c.in-Ok.missing c.hash_of-root.result c.hash_of-root.ensures.hash c.in-Ok.ensures.needs entry is in
     gives c.args.self.now c.make.new.self [] entry c.in-Ok.missing (PutAs s name object c.args.hour) makes

@@ -31,9 +31,9 @@ make-requires-clause-fit g c =
     let object = c.args.object in
     let same = c.missing_with.ensures.same in
     let absent = not_there s name.space (named object.bytes) c.requires.absent in
-    let entry = c.put_entry-entry.result in
+    let entry = c.in-Ok-put_entry.entry in
     let is : entry ≡ Put name c.hash_of-root.result (Some c.in-Ok.fresh) (is_empty c.in-Ok-missing_with.missing) (hour_of s c.args.hour) =
-    c.put_entry-entry.ensures ∙ ap (λ (b : BookView g.row.D.Denot). Put name c.hash_of-root.result (Some c.in-Ok.fresh) (is_empty c.in-Ok-missing_with.missing) (hour_of b.cache.index c.args.hour)) same in
+    c.in-Ok-put_entry.ensures ∙ ap (λ (b : BookView g.row.D.Denot). Put name c.hash_of-root.result (Some c.in-Ok.fresh) (is_empty c.in-Ok-missing_with.missing) (hour_of b.cache.index c.args.hour)) same in
     let makes = new_put c.args.self.now.cache name object c.args.hour c.requires.known absent c.in-Ok.fresh c.in-Ok.ensures.stored c.added_refs.result c.added_refs.ensures c.in_default-full.ensures.fault
     c.in-Ok-missing_with.missing c.hash_of-root.result c.hash_of-root.ensures.hash c.links.result.now c.links.ensures.links c.in-Ok-missing_with.ensures.needs entry is in
     let brings : Brings (fresh_of entry) (Some c.into_whole.result) = subst (λ (e : Entry). Brings (fresh_of e) (Some c.into_whole.result)) (sym is)
@@ -49,9 +49,9 @@ returns-clause-gives g c =
     let object = c.args.object in
     let same = c.missing_with.ensures.same in
     let absent = not_there s name.space (named object.bytes) c.requires.absent in
-    let entry = c.put_entry-entry.result in
+    let entry = c.in-Ok-put_entry.entry in
     let is : entry ≡ Put name c.hash_of-root.result (Some c.in-Ok.fresh) (is_empty c.in-Ok-missing_with.missing) (hour_of s c.args.hour) =
-    c.put_entry-entry.ensures ∙ ap (λ (b : BookView g.row.D.Denot). Put name c.hash_of-root.result (Some c.in-Ok.fresh) (is_empty c.in-Ok-missing_with.missing) (hour_of b.cache.index c.args.hour)) same in
+    c.in-Ok-put_entry.ensures ∙ ap (λ (b : BookView g.row.D.Denot). Put name c.hash_of-root.result (Some c.in-Ok.fresh) (is_empty c.in-Ok-missing_with.missing) (hour_of b.cache.index c.args.hour)) same in
     let makes = new_put c.args.self.now.cache name object c.args.hour c.requires.known absent c.in-Ok.fresh c.in-Ok.ensures.stored c.added_refs.result c.added_refs.ensures c.in_default-full.ensures.fault
     c.in-Ok-missing_with.missing c.hash_of-root.result c.hash_of-root.ensures.hash c.links.result.now c.links.ensures.links c.in-Ok-missing_with.ensures.needs entry is in
     gives c.args.self.now c.make.new.self c.into_whole.result entry c.in-Ok-missing_with.missing (PutAs s name object c.args.hour) makes

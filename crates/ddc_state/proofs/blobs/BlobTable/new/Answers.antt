@@ -1,9 +1,6 @@
-use Rattle.std.proofs.Common.{sym, subst, List}
-use Rattle.ddc_model.specs.declared.rows.Blob.{Blob}
-use Rattle.ddc_model.specs.declared.rows.BlobName.{BlobName}
-use Rattle.ddc_state.specs.Counted.{AreCounted}
-use Rattle.ddc_state.proofs.Counting.{counted_new}
+use Rattle.std.proofs.Common.{ap, ◌∙◌}
+use Rattle.ddc_state.proofs.Counting.{links_in_all, empty_counted}
 use Rattle.ddc_state.proofs.blobs.BlobTable.new.Goals as goal
 
 pub invariant_of-result : goal.invariant_of-result
-invariant_of-result c = subst (λ (es : List (BlobName × Blob)). AreCounted es 0) (sym c.new.ensures.empty) counted_new
+invariant_of-result c = ap links_in_all c.new.ensures ∙ empty_counted

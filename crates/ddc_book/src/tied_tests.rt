@@ -1,0 +1,225 @@
+//! A store that another thread serves, and whose devices come back. The hashes are from b3sum.
+
+ghost use Rattle.ddc_disk.specs.Images.{devices_line};
+ghost use Rattle.ddc_book.specs.Tied.{GoesOnFrom};
+
+use crate::{Book, Opened, Opening, StoreFault, Tied};
+use ddc_disk::{Devices, Disk, MemDisk};
+use ddc_model::Limits;
+use ddc_names::{Bucket, IoHash, Namespace, RefKey, RefName, RefSpot, Rows};
+use ddc_state::Checked;
+use io_hash::Intake;
+use std::alloc::Global;
+use std::marker::Brand;
+use std::test::Fail;
+use std::thread::{Threads, join};
+
+// Of the byte `a`.
+const LEAF: IoHash = IoHash([
+    0x17, 0x76, 0x2f, 0xdd, 0xd9, 0x69, 0xa4, 0x53, 0x92, 0x5d, 0x65, 0x71, 0x7a, 0xc3, 0xee, 0xa2,
+    0x13, 0x20, 0xb6, 0x6b,
+]);
+
+// Of the byte `b`.
+const OTHER_LEAF: IoHash = IoHash([
+    0x10, 0xe5, 0xcf, 0x3d, 0x3c, 0x8a, 0x4f, 0x9f, 0x34, 0x68, 0xc8, 0xcc, 0x58, 0xee, 0xa8, 0x48,
+    0x92, 0xa2, 0x2f, 0xda,
+]);
+
+// Of the object that links to the leaf, as bytes.
+const INNER: IoHash = IoHash([
+    0x8d, 0xe1, 0xd1, 0xf7, 0xa0, 0x2e, 0x96, 0x5d, 0x9f, 0x4c, 0xfa, 0xdd, 0x9e, 0x2a, 0x6e, 0xe6,
+    0x66, 0x90, 0x72, 0x2d,
+]);
+
+const INNER_OBJECT: &[u8] = b"\x02\x15\x0f\x17v/\xdd\xd9i\xa4S\x92]eqz\xc3\xee\xa2\x13 \xb6k";
+
+// A command at the hour 7.
+#[derive(Clone, Copy)]
+enum Call {
+    SetSpace,
+    Put,
+    Upload,
+    Finalise,
+    Get,
+    Peek,
+    Has,
+    Open,
+    Exist,
+    Verify,
+    Delete,
+    Blobs,
+    Steps,
+    Faults,
+}
+
+// The commands of a session, and how many hashes or bytes each answers.
+const SESSION: [(Call, u64); 14] = [
+    (Call::SetSpace, 0),
+    (Call::Put, 1),
+    (Call::Upload, 0),
+    (Call::Finalise, 0),
+    (Call::Get, 23),
+    (Call::Peek, 23),
+    (Call::Has, 1),
+    (Call::Open, 1),
+    (Call::Exist, 1),
+    (Call::Verify, 0),
+    (Call::Delete, 0),
+    (Call::Blobs, 2),
+    (Call::Steps, 6),
+    (Call::Faults, 0),
+];
+
+fn checked(alloc: Global, bytes: &[u8]) -> Option<Checked> {
+    let mut intake = Intake::new(alloc, bytes.len() as u64);
+    intake.take(bytes).ok()?;
+    Checked::new(alloc, intake.finish()).ok()
+}
+
+fn done(answer: Result<(), StoreFault>) -> Option<u64> {
+    match answer {
+        Ok(()) => Some(0),
+        Err(_) => None,
+    }
+}
+
+fn listed(answer: Result<Rows<IoHash>, StoreFault>) -> Option<u64> {
+    match answer {
+        Ok(rows) => Some(rows.len() as u64),
+        Err(_) => None,
+    }
+}
+
+fn upload<D: Disk, K: Opening>(
+    alloc: Global,
+    tied: &mut Tied<D, K>,
+    space: Namespace,
+    blob: Checked,
+) -> Option<u64> {
+    if blob.whole().bytes().len() > 67_108_864 {
+        return None;
+    }
+    done(tied.upload(alloc, space, blob, 7))
+}
+
+fn put<D: Disk, K: Opening>(
+    alloc: Global,
+    tied: &mut Tied<D, K>,
+    name: RefName,
+    object: Checked,
+) -> Option<u64> {
+    if !object.is_object() || object.whole().bytes().len() > 67_108_864 {
+        return None;
+    }
+    listed(tied.put(alloc, name, object, 7))
+}
+
+// What a command answers, where it is done.
+fn answer<D: Disk, K: Opening>(
+    alloc: Global,
+    tied: &mut Tied<D, K>,
+    space: Namespace,
+    call: Call,
+) -> Option<u64> {
+    let bucket = Bucket::parse("maps").ok()?;
+    let key = RefKey([1; 20]);
+    let name = RefName {
+        space,
+        spot: RefSpot { bucket, key },
+    };
+    match call {
+        Call::SetSpace => done(tied.set_space(alloc, space, 24, 4)),
+        Call::Put => put(alloc, tied, name, checked(alloc, INNER_OBJECT)?),
+        Call::Upload => upload(alloc, tied, space, checked(alloc, b"a")?),
+        Call::Finalise => listed(tied.finalise(alloc, &name, INNER, 7)),
+        Call::Get => Some(tied.get_ref(alloc, &name, 7).ok()?.bytes.len() as u64),
+        Call::Peek => Some(tied.peek_ref(&name).ok()?.1),
+        Call::Has => tied.has_blob(&space, LEAF).ok(),
+        Call::Open => match tied.open_blob(alloc, &space, LEAF) {
+            Ok(Opened::Whole(bytes)) => Some(bytes.len() as u64),
+            Err(_) => None,
+        },
+        Call::Exist => listed(tied.exist(alloc, &space, &[LEAF, OTHER_LEAF])),
+        Call::Verify => done(tied.verify(&space, LEAF)),
+        Call::Delete => done(tied.delete(alloc, &name, 7)),
+        Call::Blobs => Some(tied.index().blob_count()),
+        Call::Steps if tied.steps().len() as u64 == tied.count() => Some(tied.count()),
+        Call::Steps => None,
+        Call::Faults => Some(tied.faults()),
+    }
+}
+
+// The place of the first command that is answered otherwise, and the store.
+fn session<D: Disk, K: Opening>(
+    alloc: Global,
+    tied: Tied<D, K>,
+    space: Namespace,
+) -> (Tied<D, K>, Option<usize>) {
+    let mut tied = tied;
+    for (place, (call, told)) in SESSION.iter().copied().enumerate() {
+        if answer(alloc, &mut tied, space, call) != Some(told) {
+            return (tied, Some(place));
+        }
+    }
+    (tied, None)
+}
+
+// Another thread serves a session of a new store, and this one stores a blob then.
+fn run<D: Disk + Drop + Send, K: Opening + Send + Sync, R: Threads + Sync>(
+    rt: &R,
+    alloc: Global,
+    devices: Devices<D>,
+    space: Namespace,
+) -> (Devices<D>, Option<usize>)
+    requires { GoesOnFrom K.start D.meaning devices }
+    ensures { GoesOnFrom K.start D.meaning result.0 }
+{
+    let book = match Book::create(alloc, devices, Limits::standard()) {
+        Ok(book) => book,
+        Err((back, _)) => return (back, Some(0)),
+    };
+    let tied: Tied<D, K> = Tied::new(book);
+    let ((mut tied, wrong), blob) = join(
+        rt,
+        move || session(alloc, tied, space),
+        || checked(alloc, b"b"),
+    );
+    if let Some(blob) = blob {
+        let _ = upload(alloc, &mut tied, space, blob);
+    }
+    (tied.into_devices(), wrong)
+}
+
+// What comes back are the devices that were handed in.
+fn served<D: Disk + Drop + Send, R: Threads + Sync>(
+    rt: &R,
+    alloc: Global,
+    devices: Devices<D>,
+    space: Namespace,
+) -> (Devices<D>, Option<usize>)
+    ensures { GoesOnFrom (devices_line D.meaning devices) D.meaning result.0 }
+{
+    run::<D, Brand, R>(rt, alloc, devices, space)
+}
+
+#[test]
+fn another_thread_serves_a_tied_store(rt: HostRuntime) -> Result<(), Fail> {
+    let alloc = rt.alloc();
+    let devices = Devices {
+        first: MemDisk::new(alloc, Rows::new(alloc)),
+        second: MemDisk::new(alloc, Rows::new(alloc)),
+        blobs: MemDisk::new(alloc, Rows::new(alloc)),
+    };
+    let space = Namespace::parse("game")?;
+    let (back, wrong) = served(&rt, alloc, devices, space);
+    assert_eq!(rt; wrong, None);
+    assert_eq!(rt; back.first.calls(), 35);
+    let Ok(book) = Book::load(alloc, back, Limits::standard()) else {
+        assert!(rt; false);
+        return Ok(());
+    };
+    assert_eq!(rt; book.count(), 7);
+    assert_eq!(rt; book.has_blob(&space, OTHER_LEAF), Ok(1));
+    Ok(())
+}
