@@ -107,7 +107,7 @@ module _ (told : Option â„•) (input ahead now left old mid new : Option (List â„
   pub so_far_answered : Answered told input start s.items s.text at
   so_far_answered = let counted = s.counted in record { begins = starts_as input ahead s.front s.items s.consumed s.begins; few = omega arith; runs = s.runs }
 
-  few_so_far : length s.items < most_items
+  pub few_so_far : length s.items < most_items
   few_so_far = let counted = s.counted in omega arith
 
   module _ (item : Item) (takes : Takes ahead now from to item) where
