@@ -1,5 +1,5 @@
 -- The book that is opened for a new namespace.
-use Rattle.std.proofs.Common.{◌≡◌, ◌≢◌, ℕ, Bool, true, false, IsTrue, List, Option, Some, None, ◌∙◌, ap, subst, sym, arith, inl, inr, ⊎_elim}
+use Rattle.std.proofs.Common.{refl, ◌≡◌, ◌≢◌, ℕ, Bool, true, false, IsTrue, List, Option, Some, None, ◌∙◌, ap, subst, sym, arith, inl, inr, ⊎_elim}
 use Rattle.std.specs.Prelude.{IfSome, IsSome, ◌⊎◌}
 use Rattle.ddc_link.specs.Causes.{Rose}
 use Rattle.ddc_disk.specs.Disk.{Meaning, Timeline, IsImage, EachSince}
@@ -65,8 +65,9 @@ module _ {D : Type 0} (tells : Bool) (meaning : D → Meaning) (old : Devices D)
       → ((fault ≡ DiskFailed) × Rose (devices_faults meaning old) (devices_faults meaning new)) ⊎ IfSome (meaning old.first).held (λ file. OpenFaultOf standard file fault)
       → (fault ≡ DiskFailed → Rose (devices_faults meaning old) (devices_faults meaning new)) → FailsToOpen tells meaning old new (Unopened fault)
   fails_unopened new fault off back is cause = record {
-    ends = λ from to writes writes_now space ttl pin words hour input left reads reads_now form. (
+    ends = λ written writes space ttl pin words hour input reads reads_now form. (
       some_form (form_of words) (init space ttl pin) form,
+      (refl, refl),
       back,
       unopens
           (record {
@@ -76,13 +77,13 @@ module _ {D : Type 0} (tells : Bool) (meaning : D → Meaning) (old : Devices D)
             new = new;
             hour = hour;
             input = input;
-            left = left;
-            from = from;
-            to = to;
+            left = input;
+            from = written;
+            to = written;
             reads_before = reads;
             reads_now = reads_now;
             writes_before = writes;
-            writes_now = writes_now;
+            writes_now = writes;
           }) (form_of words) fault is cause (λ e. absurd (not_unmade fault off e)),
     );
     not_usage = open_not_1 fault;
@@ -135,8 +136,9 @@ module _ {D : Type 0} (tells : Bool) (meaning : D → Meaning) (old : Devices D)
     pub fails_uncreated : (new : Devices D) (why : OpenFault) → Creates meaning mid standard new
         → ((why ≡ DiskFailed) × Rose (devices_faults meaning mid) (devices_faults meaning new)) ⊎ (why ≡ NoMemory) → FailsToOpen tells meaning old new (Uncreated why)
     fails_uncreated new why creates cause = record {
-      ends = λ from to writes writes_now space ttl pin words hour input left reads reads_now form. (
+      ends = λ written writes space ttl pin words hour input reads reads_now form. (
         subst IsInit (sym form) tt,
+        (refl, refl),
         unmade,
         creates_from new creates,
         ⊎_elim (λ failed. inl (failed.0, rose_later (devices_faults meaning old) (devices_faults meaning mid) (devices_faults meaning new) back.later failed.1)) (λ memory. inr memory) cause,

@@ -128,16 +128,17 @@ module _ {D : Type 0} (tells : Bool) (meaning : D → Meaning) (old : Devices D)
       subst P (sym same) ends_next closed
 
 -- the store can't be opened
-pub replay_unopened : {D : Type 0} (tells : Bool) (meaning : D → Meaning) (old new : Devices D) (hour : Option ℕ) (input left from to : Option (List ℕ)) (reads reads_now writes writes_now : ℕ)
+pub replay_unopened : {D : Type 0} (tells : Bool) (meaning : D → Meaning) (old new : Devices D) (hour : Option ℕ) (input written : Option (List ℕ)) (reads reads_now writes writes_now : ℕ)
     (limits : Limits) → limits ≡ standard → (fault : OpenFault) → AsBefore meaning old new
     → ((fault ≡ open_faults.DiskFailed) × Rose (devices_faults meaning old) (devices_faults meaning new)) ⊎ IfSome (meaning old.first).held (λ file. OpenFaultOf limits file fault)
     → (fault ≡ open_faults.DiskFailed → Rose (devices_faults meaning old) (devices_faults meaning new))
-    → EndsReplay (record { tells = tells; meaning = meaning; old = old; new = new; hour = hour; input = input; left = left; from = from; to = to; reads_before = reads; reads_now = reads_now; writes_before = writes; writes_now = writes_now }) (Unopened fault)
-replay_unopened tells meaning old new hour input left from to reads reads_now writes writes_now limits are fault back is cause words form =
+    → EndsReplay (record { tells = tells; meaning = meaning; old = old; new = new; hour = hour; input = input; left = input; from = written; to = written; reads_before = reads; reads_now = reads_now; writes_before = writes; writes_now = writes_now }) (Unopened fault)
+replay_unopened tells meaning old new hour input written reads reads_now writes writes_now limits are fault back is cause words form =
     let P : Limits → Type 0 = λ l. ((fault ≡ open_faults.DiskFailed) × Rose (devices_faults meaning old) (devices_faults meaning new)) ⊎ IfSome (meaning old.first).held (λ file. OpenFaultOf l file fault) in (
       some_form (form_of words) replay form,
+      (refl, refl),
       back,
       unopens
-          (record { tells = tells; meaning = meaning; old = old; new = new; hour = hour; input = input; left = left; from = from; to = to; reads_before = reads; reads_now = reads_now; writes_before = writes; writes_now = writes_now })
+          (record { tells = tells; meaning = meaning; old = old; new = new; hour = hour; input = input; left = input; from = written; to = written; reads_before = reads; reads_now = reads_now; writes_before = writes; writes_now = writes_now })
           (form_of words) fault (subst P are is) cause (λ e. form),
     )

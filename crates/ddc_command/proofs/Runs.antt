@@ -107,6 +107,9 @@ module _ (told : Option ℕ) (input ahead now left old mid new : Option (List �
   pub so_far_answered : Answered told input start s.items s.text at
   so_far_answered = let counted = s.counted in record { begins = starts_as input ahead s.front s.items s.consumed s.begins; few = omega arith; runs = s.runs }
 
+  pub few_so_far : length s.items < most_items
+  few_so_far = let counted = s.counted in omega arith
+
   module _ (item : Item) (takes : Takes ahead now from to item) where
     begun : Begins (s.front ++ takes.0) (s.items ++ item ∷ []) []
     begun = begins_snoc s.items item (s.front ++ takes.0) takes.0 [] (subst (λ (r : List ℕ). Begins (s.front ++ takes.0) s.items r) (sym (append-nil takes.0)) (begins_more s.items s.front [] takes.0 s.begins)) takes.1
@@ -115,7 +118,15 @@ module _ (told : Option ℕ) (input ahead now left old mid new : Option (List �
     one_begins = starts_as input now (s.front ++ takes.0) (s.items ++ item ∷ []) (Consumes-trans input ahead now s.front takes.0 s.consumed takes.2) begun
 
     one_more : (damaged : Bool) (more : List ℕ) → AnswersAt told damaged close at item more next → OneMore told input start next damaged s.text more
-    one_more damaged more answers = record { items = s.items; between = at; answered = so_far_answered; item = item; begins = one_begins; close = close; answers = answers }
+    one_more damaged more answers = record {
+      items = s.items;
+      between = at;
+      answered = so_far_answered;
+      few = few_so_far;
+      item = item;
+      begins = one_begins;
+      answers = subst (λ (l : Bool). AnswersAt told damaged l at item more next) (last ∙ ap closes (sym s.counted)) answers;
+    }
 
     -- an answer that says nothing of damage makes the items one more
     pub then_answered : (more : List ℕ) → AnswersAt told false close at item more next → Answered told input start (s.items ++ item ∷ []) (s.text ++ more) next
@@ -125,7 +136,7 @@ module _ (told : Option ℕ) (input ahead now left old mid new : Option (List �
         record { begins = one_begins; few = omega arith; runs = runs_more told s.items item s.text more start at next close count last s.counted s.runs answers }
 
     abbrev pub one_change : ChangesAt told at item next → OneChange told input start next s.text
-    one_change changes = record { items = s.items; between = at; answered = so_far_answered; item = item; begins = one_begins; changes = changes }
+    one_change changes = record { items = s.items; between = at; answered = so_far_answered; few = few_so_far; item = item; begins = one_begins; changes = changes }
 
   stays : next ≡ at → Runs told 0 start s.items s.text next
   stays same = subst (λ (store : OpenStore). Runs told 0 start s.items s.text store) (sym same) s.runs
@@ -169,7 +180,7 @@ module _ (told : Option ℕ) (input ahead now left old mid new : Option (List �
   ends (Cut place) (is_cut, is, kept, same) = quiet place cut is refl (counts IsCut is_cut) kept same
   ends (Spent place) h = absurd h
   ends ReadFailed ((part, lost, none), kept, same) =
-      (s.items, s.text, s.front ++ part, part, Consumes-trans input ahead left s.front part s.consumed lost, begins_more s.items s.front [] part s.begins, none, stays same, Appends-kept old mid new s.text s.wrote kept)
+      (s.items, s.text, s.front ++ part, part, Consumes-trans input ahead left s.front part s.consumed lost, begins_more s.items s.front [] part s.begins, few_so_far, none, stays same, Appends-kept old mid new s.text s.wrote kept)
   ends WriteFailed (inl (damaged, more, (item, takes, answers), wrote)) = inl (damaged, s.text, more, one_more item takes damaged more answers, front_behind old mid new s.text more s.wrote wrote)
   ends WriteFailed (inr (is_unread, wrote, same)) =
       inr (s.items, s.text, from, reads input ahead s.front s.items from unread s.consumed s.begins s.placed (counts IsUnread is_unread), stays same, front_behind old mid new s.text unread_reply s.wrote wrote)

@@ -1,5 +1,5 @@
 -- What a session writes and leaves, by what it reads.
-use Rattle.std.specs.Prelude.{◌≡◌, ◌⊎◌, ℕ, ◌≤◌, Bool, true, false, List, [], ◌∷◌, ◌++◌, length, Option, IfSome}
+use Rattle.std.specs.Prelude.{◌≡◌, ◌⊎◌, ℕ, ◌≤◌, ◌<◌, Bool, true, false, List, [], ◌∷◌, ◌++◌, length, Option, IfSome}
 use Rattle.std.specs.Io.KnownBytes.{Keeps, Appends, Consumes, IsAtEnd}
 use Rattle.ddc_link.specs.Writes.{AppendsFront}
 use Rattle.ddc_disk.specs.Disk.{Timeline, EachImage}
@@ -17,7 +17,7 @@ use Rattle.ddc_command.specs.declared.session.Served.TheVariants.{Closed, Unread
 use Rattle.ddc_command.specs.declared.session.Turn.{Turn}
 use Rattle.ddc_command.specs.declared.session.Turn.TheVariants.{Ended}
 use Rattle.ddc_command.specs.declared.session.Turn.TheVariants as turns
-use Rattle.ddc_command.specs.Replies.{OpenStore, AnswersAt, ChangesAt, Runs, last_text}
+use Rattle.ddc_command.specs.Replies.{OpenStore, AnswersAt, ChangesAt, closes, Runs, last_text}
 
 -- a book as a stream sees it
 abbrev pub store_of : {D : Type 0} → BookView D → OpenStore
@@ -69,26 +69,27 @@ pub record Answered (told : Option ℕ) (input : Option (List ℕ)) (start : Ope
 abbrev pub Whole : Option ℕ → Option (List ℕ) → Option (List ℕ) → Option (List ℕ) → OpenStore → OpenStore → ℕ → End → Type 0
 Whole told input old new start final at end = (items : List Item) × (text : List ℕ) × Reads input items at end × Runs told 0 start items text final × Appends old new (text ++ last_text end)
 
--- the replies to all items that the bytes read hold whole
+-- the replies to all items that the bytes read hold whole, which are fewer than the most
 abbrev pub RepliesToRead : Option ℕ → Option (List ℕ) → Option (List ℕ) → Option (List ℕ) → Option (List ℕ) → OpenStore → OpenStore → Type 0
 RepliesToRead told input left old new start final =
-    (items : List Item) × (text : List ℕ) × (read : List ℕ) × (part : List ℕ) × Consumes input left read × Begins read items part × HasNoItem part × Runs told 0 start items text final × Appends old new text
+    (items : List Item) × (text : List ℕ) × (read : List ℕ) × (part : List ℕ) × Consumes input left read × Begins read items part × (length items < most_items) × HasNoItem part × Runs told 0 start items text final × Appends old new text
 
 -- the reply to one item more
 pub record OneMore (told : Option ℕ) (input : Option (List ℕ)) (start final : OpenStore) (damaged : Bool) (text more : List ℕ) : Type 0 where
   pub items : List Item
   pub between : OpenStore
   pub answered : Answered told input start items text between
+  pub few : length items < most_items
   pub item : Item
   pub begins : StartsAs input (items ++ item ∷ [])
-  pub close : Bool
-  pub answers : AnswersAt told damaged close between item more final
+  pub answers : AnswersAt told damaged (closes (length items)) between item more final
 
 -- the change of one item more
 pub record OneChange (told : Option ℕ) (input : Option (List ℕ)) (start final : OpenStore) (text : List ℕ) : Type 0 where
   pub items : List Item
   pub between : OpenStore
   pub answered : Answered told input start items text between
+  pub few : length items < most_items
   pub item : Item
   pub begins : StartsAs input (items ++ item ∷ [])
   pub changes : ChangesAt told between item final

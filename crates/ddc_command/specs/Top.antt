@@ -209,6 +209,14 @@ OpensTo scene cache = IsTrue scene.tells × EachImage (line_before scene) (λ im
 abbrev pub IsOpened : {D : Type 0} → Scene D → Cache → Type 0
 IsOpened scene cache = IfSome (scene.meaning scene.old.first).held (λ file. Holds standard file cache) × AreWhole cache.index
 
+-- nothing was taken from the source
+abbrev pub TakesNothing : {D : Type 0} → Scene D → Type 0
+TakesNothing scene = scene.left ≡ scene.input
+
+-- nor written to the sink
+abbrev pub IsQuiet : {D : Type 0} → Scene D → Type 0
+IsQuiet scene = TakesNothing scene × (scene.to ≡ scene.from)
+
 -- ---- a store that isn't opened
 
 abbrev pub IsInit : Option Form → Type 0
@@ -268,14 +276,18 @@ StartsFrom scene cache = IsTrue scene.tells × EachImage (line_before scene) (λ
 abbrev pub IsFound : {D : Type 0} → Scene D → Cache → Type 0
 IsFound scene cache = IsOpened scene cache ⊎ (IfSome (scene.meaning scene.old.first).held (λ file. is_made file ≡ false) × (cache ≡ empty_cache standard))
 
--- a namespace was asked for; a crash at any moment of the call leaves the state before or after it, or no store where none
--- was made
+-- a crash at any moment of the call leaves the state before or after this entry, or no store where none was made
+abbrev pub LeavesBetween : {D : Type 0} → Scene D → Cache → Option Entry → Type 0
+LeavesBetween scene start made =
+    StartsFrom scene start → EachSince (line_before scene) (line_now scene) (λ im. Opens standard im start ⊎ Opens standard im (changed start [] made) ⊎ IsEmptyUnmade start im)
+
+-- a namespace was asked for, with this answer
 pub record Makes {D : Type 0} (scene : Scene D) (space : List ℕ) (ttl pin : ℕ) (start : Cache) (answer : Result (Unit {0}) StoreFault) (made : Option Entry) : Type 0 where
   pub found : IsFound scene start
   pub answers : SpaceAs start.index space ttl pin answer made
-  pub any_moment : StartsFrom scene start → EachSince (line_before scene) (line_now scene) (λ im. Opens standard im start ⊎ Opens standard im (changed start [] made) ⊎ IsEmptyUnmade start im)
+  pub any_moment : LeavesBetween scene start made
 
--- and at return the state after it
+-- at return a crash leaves the state after the entry
 abbrev pub LeavesAfter : {D : Type 0} → Scene D → Cache → Option Entry → Type 0
 LeavesAfter scene start made = StartsFrom scene start → EachImage (line_now scene) (λ im. Opens standard im (changed start [] made))
 
@@ -288,7 +300,7 @@ Unmakes scene space ttl pin start faults.NotFinalised = ⊥
 Unmakes scene space ttl pin start faults.NotPending = ⊥
 Unmakes scene space ttl pin start (Full what limit) = Makes scene space ttl pin start (Err (Full what limit)) None × LeavesAfter scene start None
 Unmakes scene space ttl pin start (faults.HistoryFull entries links) = ⊥
-Unmakes scene space ttl pin start faults.NoMemory = IsFound scene start × LeavesAfter scene start None
+Unmakes scene space ttl pin start faults.NoMemory = IsFound scene start × LeavesBetween scene start None × LeavesAfter scene start None
 Unmakes scene space ttl pin start faults.DiskFailed = ((made : Option Entry) × Makes scene space ttl pin start (Ok tt) made) × DevicesRose scene
 Unmakes scene space ttl pin start (faults.Damaged name found) = ⊥
 
@@ -296,18 +308,18 @@ Unmakes scene space ttl pin start (faults.Damaged name found) = ⊥
 
 -- how a command of these words ended
 abbrev pub Ends : {D : Type 0} → Scene D → List (String Global) → Ended → Type 0
-Ends scene words Usage = (form_of words ≡ None) × (scene.new ≡ scene.old)
-Ends scene words (Unopened fault) = (form_of words ≢ None) × AsBefore scene.meaning scene.old scene.new × Unopens scene (form_of words) fault
+Ends scene words Usage = (form_of words ≡ None) × IsQuiet scene × (scene.new ≡ scene.old)
+Ends scene words (Unopened fault) = (form_of words ≢ None) × IsQuiet scene × AsBefore scene.meaning scene.old scene.new × Unopens scene (form_of words) fault
 Ends scene words (Replayed served) = (form_of words ≡ Some replay) × (start : Cache) × (final : OpenStore) × Replays scene start final served
 Ends scene words (Uncreated fault) =
-    IsInit (form_of words) × IfSome (scene.meaning scene.old.first).held (λ file. is_made file ≡ false) × Creates scene.meaning scene.old standard scene.new
+    IsInit (form_of words) × IsQuiet scene × IfSome (scene.meaning scene.old.first).held (λ file. is_made file ≡ false) × Creates scene.meaning scene.old standard scene.new
     × (((fault ≡ open_faults.DiskFailed) × DevicesRose scene) ⊎ (fault ≡ open_faults.NoMemory))
-Ends scene words (Unmade fault) = (space : List ℕ) × (ttl : ℕ) × (pin : ℕ) × (form_of words ≡ Some (init space ttl pin)) × (start : Cache) × Unmakes scene space ttl pin start fault
+Ends scene words (Unmade fault) = (space : List ℕ) × (ttl : ℕ) × (pin : ℕ) × (form_of words ≡ Some (init space ttl pin)) × IsQuiet scene × (start : Cache) × Unmakes scene space ttl pin start fault
 Ends scene words Made =
-    (space : List ℕ) × (ttl : ℕ) × (pin : ℕ) × (form_of words ≡ Some (init space ttl pin)) × (start : Cache) × (made : Option Entry)
+    (space : List ℕ) × (ttl : ℕ) × (pin : ℕ) × (form_of words ≡ Some (init space ttl pin)) × TakesNothing scene × (start : Cache) × (made : Option Entry)
     × Makes scene space ttl pin start (Ok tt) made × LeavesAfter scene start made × Appends scene.from scene.to (made_line space ttl pin)
 Ends scene words Untold =
-    (space : List ℕ) × (ttl : ℕ) × (pin : ℕ) × (form_of words ≡ Some (init space ttl pin)) × (start : Cache) × (made : Option Entry)
+    (space : List ℕ) × (ttl : ℕ) × (pin : ℕ) × (form_of words ≡ Some (init space ttl pin)) × TakesNothing scene × (start : Cache) × (made : Option Entry)
     × Makes scene space ttl pin start (Ok tt) made × LeavesAfter scene start made × AppendsFront scene.from scene.to (made_line space ttl pin) × Rose scene.writes_before scene.writes_now
 
 -- ---- its parts
@@ -322,7 +334,7 @@ EndsReplay scene ended = EndsFor scene replay ended
 -- what `init` does, whatever words ask for it, and whatever the clock and the source are
 abbrev pub EndsInit : {D : Type 0} → Bool → (D → Meaning) → Devices D → Devices D → Option (List ℕ) → Option (List ℕ) → ℕ → ℕ → List ℕ → ℕ → ℕ → Ended → Type 0
 EndsInit tells meaning old new from to before now space ttl pin ended =
-    (words : List (String Global)) (hour : Option ℕ) (input left : Option (List ℕ)) (reads reads_now : ℕ) → form_of words ≡ Some (init space ttl pin)
+    (words : List (String Global)) (hour : Option ℕ) (input : Option (List ℕ)) (reads reads_now : ℕ) → form_of words ≡ Some (init space ttl pin)
     → Ends (record {
       tells = tells;
       meaning = meaning;
@@ -330,7 +342,7 @@ EndsInit tells meaning old new from to before now space ttl pin ended =
       new = new;
       hour = hour;
       input = input;
-      left = left;
+      left = input;
       from = from;
       to = to;
       reads_before = reads;
@@ -349,7 +361,7 @@ is_unmade open_faults.NoMemory = false
 
 -- why there is no store in which `init` makes a namespace
 pub record FailsToOpen {D : Type 0} (tells : Bool) (meaning : D → Meaning) (old new : Devices D) (ended : Ended) : Type 0 where
-  pub ends : (from to : Option (List ℕ)) (before now : ℕ) (space : List ℕ) (ttl pin : ℕ) → EndsInit tells meaning old new from to before now space ttl pin ended
+  pub ends : (written : Option (List ℕ)) (writes : ℕ) (space : List ℕ) (ttl pin : ℕ) → EndsInit tells meaning old new written written writes writes space ttl pin ended
   pub not_usage : status_of ended ≢ 1
 
 -- a book that was opened just now, of the store that the devices held, or of an empty one where they held none

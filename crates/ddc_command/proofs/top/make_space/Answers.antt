@@ -1,4 +1,4 @@
-use Rattle.std.proofs.Common.{◌∙◌, ap, subst, List, ℕ, Result, Err}
+use Rattle.std.proofs.Common.{refl, ◌∙◌, ap, subst, List, ℕ, Result, Err}
 use Rattle.std.specs.Io.KnownBytes.{Appends}
 use Rattle.ddc_link.specs.Writes.{AppendsFront}
 use Rattle.ddc_model.specs.declared.fault.StoreFault.{StoreFault}
@@ -9,14 +9,14 @@ use Rattle.ddc_command.proofs.top.make_space.Goals as goal
 pub returns-in_default-clause-ends : goal.returns-in_default-clause-ends
 returns-in_default-clause-ends g c = λ old found.
     lacks_memory g.D.Disk.tells g.D.Disk.meaning old c.args.book c.args.space.now c.args.ttl c.args.pin found
-    (g.W.Sink.written c.args.sink.now) (g.W.Sink.written c.args.sink.now) (g.W.Sink.faults c.args.sink.now) (g.W.Sink.faults c.args.sink.now) c.into_devices.result c.into_devices.ensures.opened
+    (g.W.Sink.written c.args.sink.now) (g.W.Sink.faults c.args.sink.now) c.into_devices.result c.into_devices.ensures.devices c.into_devices.ensures.opened
 
 pub returns-in-Err-clause-ends : goal.returns-in-Err-clause-ends
 returns-in-Err-clause-ends g c = λ old found.
     let refused : StoreFault → Result (Unit {0}) StoreFault = λ f. Err f in
     refuses_space g.D.Disk.tells g.D.Disk.meaning old c.args.book c.args.space.now c.args.ttl c.args.pin found c.set_space.new.self c.set_space.ensures.goes_on
     (g.W.Sink.written c.args.sink.now) (g.W.Sink.written c.args.sink.now) (g.W.Sink.faults c.args.sink.now) (g.W.Sink.faults c.args.sink.now)
-    c.in-Err.fault c.into_devices-in-Err.result c.into_devices-in-Err.ensures.devices c.into_devices-in-Err.ensures.opened c.in-Err.ensures.gives (λ e. c.in-Err.ensures.cause (ap refused e))
+    c.in-Err.fault refl c.into_devices-in-Err.result c.into_devices-in-Err.ensures.devices c.into_devices-in-Err.ensures.opened c.in-Err.ensures.gives (λ e. c.in-Err.ensures.cause (ap refused e))
 
 pub returns-in-Ok-put_all-clause-ends : goal.returns-in-Ok-put_all-clause-ends
 returns-in-Ok-put_all-clause-ends g c = λ old found.

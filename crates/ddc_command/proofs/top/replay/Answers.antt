@@ -19,6 +19,6 @@ returns-in-Ok-clause-ends g c =
 
 pub returns-in-Err-clause-ends : goal.returns-in-Err-clause-ends
 returns-in-Err-clause-ends g c =
-    replay_unopened g.D.Disk.tells g.D.Disk.meaning c.args.devices c.in-Err.devices (g.C.Clock.tells c.args.clock.now) (g.S.Source.left c.args.source.now) (g.S.Source.left c.args.source.now)
-    (g.W.Sink.written c.args.sink.now) (g.W.Sink.written c.args.sink.now) (g.S.Source.faults c.args.source.now) (g.S.Source.faults c.args.source.now) (g.W.Sink.faults c.args.sink.now) (g.W.Sink.faults c.args.sink.now)
+    replay_unopened g.D.Disk.tells g.D.Disk.meaning c.args.devices c.in-Err.devices (g.C.Clock.tells c.args.clock.now) (g.S.Source.left c.args.source.now) (g.W.Sink.written c.args.sink.now)
+    (g.S.Source.faults c.args.source.now) (g.S.Source.faults c.args.source.now) (g.W.Sink.faults c.args.sink.now) (g.W.Sink.faults c.args.sink.now)
     c.standard.result c.standard.ensures c.in-Err.fault c.in-Err.ensures.back c.in-Err.ensures.fault c.in-Err.ensures.cause
