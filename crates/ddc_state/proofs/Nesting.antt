@@ -81,9 +81,9 @@ module _ {V : Type 0} where
   read_rewritten es fs name blobs w renews rewrites q =
       read_renewed es fs name.space blobs renews q
       ∙ there (name_cmp q.space name.space) (io_hash_cmp q.hash name.hash) (found (Some blobs) q.hash) w (get (in_spaces es) q) (λ tied.
-          rewrites q.hash ∙ ap (λ b. cond b w (found (lookup (is_at (name_cmp name.space)) es) q.hash)) ((eq_by_cmp_equiv io_hash_total).symm name.hash q.hash)
-          ∙ ap (λ (space : List ℕ). cond (eq_by_cmp io_hash_cmp q.hash name.hash) w (found (lookup (is_at (name_cmp space)) es) q.hash)) (sym (name_exact q.space name.space tied))
-          ∙ ap (cond (eq_by_cmp io_hash_cmp q.hash name.hash) w) (sym (read es q)))
+      rewrites q.hash ∙ ap (λ b. cond b w (found (lookup (is_at (name_cmp name.space)) es) q.hash)) ((eq_by_cmp_equiv io_hash_total).symm name.hash q.hash)
+      ∙ ap (λ (space : List ℕ). cond (eq_by_cmp io_hash_cmp q.hash name.hash) w (found (lookup (is_at (name_cmp space)) es) q.hash)) (sym (name_exact q.space name.space tied))
+      ∙ ap (cond (eq_by_cmp io_hash_cmp q.hash name.hash) w) (sym (read es q)))
 
   -- what is found where a namespace has this map, and where it has none
   pub read_in : (es : List (List ℕ × BTreeMap IoHash V)) (name : BlobName) (blobs : BTreeMap IoHash V) → Some blobs ≡ lookup (is_at (name_cmp name.space)) es → lookup (is_at (io_hash_cmp name.hash)) blobs.entries ≡ get (in_spaces es) name
@@ -135,8 +135,8 @@ module _ {V : Type 0} where
     kept_in same = same_map blob_total blob_exact _ _ (λ q.
         read_renewed m.entries n.entries name.space new renews q
         ∙ unmoved (name_cmp q.space name.space) (found (Some new) q.hash) (get (in_spaces m.entries) q) (λ tied.
-            ap (lookup (is_at (io_hash_cmp q.hash))) same ∙ ap (λ o. found o q.hash) was
-            ∙ ap (λ (at : List ℕ). found (lookup (is_at (name_cmp at)) m.entries) q.hash) (sym (name_exact q.space name.space tied)) ∙ sym (read m.entries q)))
+        ap (lookup (is_at (io_hash_cmp q.hash))) same ∙ ap (λ o. found o q.hash) was
+        ∙ ap (λ (at : List ℕ). found (lookup (is_at (name_cmp at)) m.entries) q.hash) (sym (name_exact q.space name.space tied)) ∙ sym (read m.entries q)))
 
     module _ (w : V) (writes : WritesThrough io_hash_cmp (io_hash_cmp name.hash) old w new) where
       pub written : (v : V) → Some v ≡ lookup (is_at (io_hash_cmp name.hash)) old.entries → in_spaces n.entries ≡ insert (in_spaces m.entries) name w

@@ -27,7 +27,7 @@ returns-in-Some g c =
     let found = c.get_mut-in-Some.ensures.value in (
       ends_alike c.get_mut-in-Some.result _ _ _ _
           (λ v some w. let new = inner.lender w in
-              written m (lent.lender new) name old new c.in-Some.ensures.value (lent.holds new) w (inner.holds w) v (some ∙ found) ∙ ap (λ m. map.insert m name w) c.self.view_is)
+          written m (lent.lender new) name old new c.in-Some.ensures.value (lent.holds new) w (inner.holds w) v (some ∙ found) ∙ ap (λ m. map.insert m name w) c.self.view_is)
           (kept_in m (lent.lender none) name old none c.in-Some.ensures.value (lent.holds none) (λ i. (inner.holds-at-none i).entries) ∙ c.self.view_is),
       record { writes_back = tt; value = found ∙ read_in m.entries name old c.in-Some.ensures.value ∙ ap (λ m. map.get m name) c.self.view_is },
     )

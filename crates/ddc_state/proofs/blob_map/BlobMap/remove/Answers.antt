@@ -40,7 +40,7 @@ pub overflow_sub-self : goal.overflow_sub-self
 overflow_sub-self g c =
     let es = c.self.inside.spaces.entries in
     subst (λ n. 1 ≤ n) c.self.invariant
-        (at_least_one blob_cmp blob_total (in_spaces es) c.args.name.now c.in_ok-value.value (c.in_ok-value.ensures.value ∙ read_in es c.args.name.now c.in_ok-get_mut.field-0.now c.in_ok-get_mut.ensures.value))
+    (at_least_one blob_cmp blob_total (in_spaces es) c.args.name.now c.in_ok-value.value (c.in_ok-value.ensures.value ∙ read_in es c.args.name.now c.in_ok-get_mut.field-0.now c.in_ok-get_mut.ensures.value))
 
 pub invariant_of-self-2 : goal.invariant_of-self-2
 invariant_of-self-2 g c =
