@@ -1,14 +1,12 @@
 -- That the entries of commands are fit to be made.
-use Rattle.std.specs.Prelude.{◌≡◌, ℕ, ◌≤◌, Bool, true, false, ◌&&◌, List, [], length, Option, None, Some, is_some, nat_lt, Result, Ok, Err, if◌then◌else◌, refl}
-use Rattle.std.proofs.Common.{ap, sym, ◌∙◌, subst}
+use Rattle.std.specs.Prelude.{◌≡◌, ℕ, ◌≤◌, Bool, true, false, ◌&&◌, List, length, Option, None, Some, is_some, nat_lt, Ok, Err, if◌then◌else◌, refl}
+use Rattle.std.proofs.Common.{sym, subst}
 use Rattle.std.specs.FinMap.{get}
 use Rattle.ddc_names.specs.declared.hash.IoHash.{IoHash}
 use Rattle.ddc_names.specs.declared.reference.RefName.{RefName}
 use Rattle.ref_store.specs.declared.slot.Slot.{Slot}
-use Rattle.ddc_model.specs.declared.entry.Stored.{Stored}
 use Rattle.ddc_model.specs.declared.entry.Entry.{Entry}
-use Rattle.ddc_model.specs.declared.entry.Entry.TheVariants.{Space, Upload, Repin, Put, Finalise, Delete, Touch}
-use Rattle.ddc_model.specs.declared.fault.StoreFault.{StoreFault}
+use Rattle.ddc_model.specs.declared.entry.Entry.TheVariants.{Space, Finalise, Delete, Touch}
 use Rattle.ddc_model.specs.declared.fault.StoreFault.TheVariants.{UnknownSpace, NotPending}
 use Rattle.ddc_model.specs.Limits.{most_bytes}
 use Rattle.ddc_model.specs.State.{State, has_space, done_of, pending_of}
@@ -16,7 +14,7 @@ use Rattle.ddc_model.specs.Entries.{legal, is_hash, is_time}
 use Rattle.ddc_model.specs.Content.{Content, IsContent}
 use Rattle.ddc_model.specs.Sound.{Cache, AreWhole, IsSound}
 use Rattle.ddc_model.specs.Counts.{fresh_of}
-use Rattle.ddc_model.specs.Commands.{changed, stored, SpaceAs, UploadAs, PutAs, FinaliseAs, GetAs, is_done, is_done_at, object_of, done_at, done_hash, hour_of, touch_entry, touch_where}
+use Rattle.ddc_model.specs.Commands.{changed, SpaceAs, UploadAs, PutAs, FinaliseAs, GetAs, is_done, is_done_at, object_of, done_at, done_hash, hour_of, touch_entry, touch_where}
 use Rattle.ddc_model.proofs.Maps.{same_some}
 use Rattle.ddc_model.specs.Reads.{DeleteAs}
 use Rattle.ddc_model.proofs.Sound.{space_sound, upload_sound, put_sound, finalise_sound, get_sound, delete_sound}

@@ -1,19 +1,18 @@
 -- What a command gives, by what it looks up and makes.
-use Rattle.std.specs.Prelude.{◌≡◌, ℕ, Bool, true, false, List, [], ◌∷◌, ◌++◌, Option, None, Some, Result, Ok, Err, ◌||◌, nat_lt, ◌+◌, if◌then◌else◌, refl, ⊤}
+use Rattle.std.specs.Prelude.{◌≡◌, ℕ, true, List, [], ◌∷◌, ◌++◌, Option, None, Some, Result, Ok, Err, refl}
 use Rattle.std.proofs.Common.{ap, sym, ◌∙◌, subst}
 use Rattle.ddc_model.specs.declared.entry.Entry.{Entry}
 use Rattle.ddc_model.specs.declared.entry.Step.TheVariants.{Change, Broke}
 use Rattle.ddc_model.specs.declared.fault.StoreFault.{StoreFault}
 use Rattle.ddc_model.specs.declared.fault.StoreFault.TheVariants.{Broken, UnknownSpace, NotFound, NotFinalised, NotPending, Full, HistoryFull, NoMemory, DiskFailed, Damaged}
 use Rattle.ddc_model.specs.State.{State}
-use Rattle.ddc_model.specs.Sound.{Cache}
 use Rattle.ddc_model.specs.Commands.{changed}
 use Rattle.ddc_model.specs.Counts.{full}
 use Rattle.ddc_model.specs.Commands.{unless, with_room, EntryWhere}
 use Rattle.ddc_model.specs.History.{Past, past_of, broken_by, no_room, no_room_for, RoomWhere, WithRoom}
 use Rattle.ddc_model.proofs.Maps.{same_some}
 use Rattle.ddc_book.specs.View.{BookView}
-use Rattle.ddc_book.specs.Calls.{Becomes, Breaks, Makes, Gives, Commits}
+use Rattle.ddc_book.specs.Calls.{Becomes, Makes, Gives, Commits}
 use Rattle.ddc_book.specs.Making.{IsRefusal}
 
 -- ---- nothing is made

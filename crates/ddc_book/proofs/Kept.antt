@@ -1,5 +1,5 @@
 -- What a book's type keeps while an entry is made.
-use Rattle.std.specs.Prelude.{◌≡◌, ◌⊎◌, ℕ, ◌+◌, ◌-◌, ◌^◌, ◌≤◌, Bool, true, IsTrue, min, List, [], ◌∷◌, ◌++◌, length, take, Option, None, Some, Ok, IfSome, ⊤, refl}
+use Rattle.std.specs.Prelude.{◌≡◌, ◌⊎◌, ℕ, ◌≤◌, Bool, true, IsTrue, List, [], ◌∷◌, ◌++◌, length, take, Option, None, Some, Ok, IfSome, refl}
 use Rattle.std.proofs.Common.{inl, inr, ⊎_elim, sym, ◌∙◌, ap, subst, arith, append_assoc, length-append}
 use Rattle.std.proofs.lemmas.Bool.{cases_lt}
 use Rattle.std.proofs.lemmas.List.{take-append-le, take_at}
@@ -24,7 +24,7 @@ use Rattle.ddc_model.specs.declared.entry.Step.TheVariants.{Loaded, Change, Brok
 use Rattle.ddc_model.specs.State.{State, empty_state}
 use Rattle.ddc_model.specs.Entries.{after, legal, with_root, with_touch}
 use Rattle.ddc_model.specs.Counts.{fresh_of}
-use Rattle.ddc_model.specs.Sound.{Cache, empty_cache, HasBytes, IsSound}
+use Rattle.ddc_model.specs.Sound.{Cache, empty_cache, IsSound}
 use Rattle.ddc_model.specs.Keys.{blob_cmp}
 use Rattle.ddc_model.specs.Commands.{changed, kept}
 use Rattle.ddc_model.specs.History.{after_steps, broken_by, AreLawful, IsLawful}

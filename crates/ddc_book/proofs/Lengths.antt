@@ -1,5 +1,5 @@
 -- How long the spelling of an entry is.
-use Rattle.std.specs.Prelude.{is_some, ◌≡◌, ℕ, ◌+◌, ◌*◌, ◌<◌, ◌≤◌, Bool, true, false, not, ◌&&◌, List, [], ◌∷◌, ◌++◌, length, Option, None, Some, IfSome, nat_le, refl}
+use Rattle.std.specs.Prelude.{is_some, ◌≡◌, ℕ, ◌+◌, ◌*◌, ◌≤◌, Bool, true, false, not, ◌&&◌, List, [], ◌∷◌, ◌++◌, length, Option, None, Some, IfSome, nat_le, refl}
 use Rattle.std.proofs.Common.{ap, sym, ◌∙◌, subst, arith, length-append}
 use Rattle.std.specs.List.{flat_map, AllByRecursion}
 use Rattle.std.proofs.lemmas.Bool.Decides.{nat_tests}
@@ -21,7 +21,7 @@ use Rattle.ddc_model.specs.Sound.{Cache, HasBytes}
 use Rattle.ddc_model.proofs.Maps.{same_some}
 use Rattle.ddc_book.specs.Opening.{length_of}
 use Rattle.ddc_book.specs.Making.{added_name}
-use Rattle.ddc_entry.specs.Spelling.{name, spot, ref_name, flag, kind_byte, link, stored, optional, spelling, four, eight, IsEntry, IsHash, IsLink, IsName, IsRefName, IsStored}
+use Rattle.ddc_entry.specs.Spelling.{name, spot, ref_name, flag, link, stored, optional, spelling, four, eight, IsEntry, IsLink, IsName, IsRefName, IsStored}
 
 name_short : (text : List ℕ) → IsName text → length (name text) ≤ 65
 name_short text is = let short = (rest_of_name 0 text (omega arith) is).0 in omega (arith, short)

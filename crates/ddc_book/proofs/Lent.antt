@@ -1,11 +1,11 @@
 -- What an append leaves, once the first device was lent for it.
-use Rattle.std.specs.Prelude.{◌≡◌, ℕ, ◌≤◌, List, [], ◌∷◌, ◌++◌, IsSome}
+use Rattle.std.specs.Prelude.{ℕ, List, IsSome}
 use Rattle.std.proofs.Common.{sym, subst, arith}
-use Rattle.ddc_disk.specs.Disk.{Timeline, Meaning, EachSince, Rests}
-use Rattle.ddc_disk.specs.Images.{Images, together, IsLent}
+use Rattle.ddc_disk.specs.Disk.{Meaning, EachSince, Rests}
+use Rattle.ddc_disk.specs.Images.{together, IsLent}
 use Rattle.ddc_disk.specs.Lending.{first_lent, lent_now}
 use Rattle.ddc_disk.specs.Since.{weaker}
-use Rattle.ddc_journal.specs.Journal.{LoadsEither, IsReady}
+use Rattle.ddc_journal.specs.Journal.{IsReady}
 
 module _ (first second blobs lent : Meaning) (rests_first : Rests first.line) (rests_second : Rests second.line) (rests_blobs : Rests blobs.line) (is : IsLent first (together first second blobs) lent) where
   -- a disk that is lent has what it had

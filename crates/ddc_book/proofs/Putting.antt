@@ -21,12 +21,12 @@ use Rattle.ddc_model.specs.declared.fault.StoreFault.{StoreFault}
 use Rattle.ddc_model.specs.declared.fault.StoreFault.TheVariants.{UnknownSpace}
 use Rattle.ddc_model.specs.Keys.{blob_cmp, blob_total, blob_exact}
 use Rattle.ddc_model.specs.State.{State, blob_name, blob_at, has_blob, has_space}
-use Rattle.ddc_model.specs.Entries.{with_blob, with_pin, with_root, blob_of, pinned}
+use Rattle.ddc_model.specs.Entries.{with_root, blob_of, pinned}
 use Rattle.ddc_model.specs.Content.{Content, named}
 use Rattle.ddc_model.specs.Closure.{Links, links_in, with_links, AreNeeds}
 use Rattle.ddc_model.specs.Counts.{added, full}
 use Rattle.ddc_model.specs.Sound.{Cache}
-use Rattle.ddc_model.specs.Commands.{changed, hour_of, stored, is_empty, fresh_where, fresh_root, with_object, put_entry, put_fault, PutWhere, PutAs, is_done, finalise_entry, FinaliseWhere, FinaliseAs}
+use Rattle.ddc_model.specs.Commands.{changed, hour_of, stored, is_empty, fresh_where, fresh_root, with_object, put_entry, put_fault, PutWhere, PutAs, is_done, FinaliseWhere, FinaliseAs}
 use Rattle.ddc_model.proofs.Maps.{get_here, get_away, same_or_not}
 use Rattle.ddc_book.specs.Making.{full_by}
 

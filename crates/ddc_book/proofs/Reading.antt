@@ -1,5 +1,5 @@
 -- What reading a reference gives.
-use Rattle.std.specs.Prelude.{◌≡◌, ℕ, Bool, true, false, List, [], Option, None, Some, Result, Ok, Err, if◌then◌else◌, option_map, ◌⊎◌, refl}
+use Rattle.std.specs.Prelude.{◌≡◌, ℕ, Bool, true, false, List, Option, None, Some, Result, Ok, Err, if◌then◌else◌, option_map, ◌⊎◌, refl}
 use Rattle.std.proofs.Common.{ap, sym, ◌∙◌, subst, inl, inr}
 use Rattle.std.specs.FinMap.{get}
 use Rattle.ddc_names.specs.declared.hash.IoHash.{IoHash}
@@ -9,8 +9,8 @@ use Rattle.cb_fields.specs.declared.links.LinkKind.TheVariants.{Object}
 use Rattle.ddc_model.specs.declared.rows.Blob.{Blob}
 use Rattle.ddc_model.specs.declared.entry.Entry.{Entry}
 use Rattle.ddc_model.specs.declared.fault.StoreFault.{StoreFault}
-use Rattle.ddc_model.specs.declared.fault.StoreFault.TheVariants.{UnknownSpace, NotFound, NotFinalised, NoMemory, Damaged}
-use Rattle.ddc_model.specs.State.{State, blob_name, blob_at, has_space}
+use Rattle.ddc_model.specs.declared.fault.StoreFault.TheVariants.{UnknownSpace, NoMemory, Damaged}
+use Rattle.ddc_model.specs.State.{blob_name, blob_at, has_space}
 use Rattle.ddc_model.specs.Closure.{links_in, IsMissing, IsWhole}
 use Rattle.ddc_model.specs.Sound.{Cache, AreWhole, HasBytes}
 use Rattle.ddc_model.specs.Commands.{done_hash, done_at, found, object_of, touch_entry, GetWhere, GetAs}

@@ -1,5 +1,5 @@
 -- What storing a blob gives.
-use Rattle.std.specs.Prelude.{◌≡◌, ℕ, ◌<◌, ◌≤◌, Bool, true, false, List, Option, None, Some, is_some, Result, Ok, Err, nat_lt, if◌then◌else◌, option_map, refl}
+use Rattle.std.specs.Prelude.{◌≡◌, ℕ, ◌<◌, ◌≤◌, Bool, true, false, List, Option, None, Some, Result, Ok, Err, nat_lt, if◌then◌else◌, option_map, refl}
 use Rattle.std.proofs.Common.{ap, sym, ◌∙◌, subst, arith}
 use Rattle.std.proofs.lemmas.Bool.Decides.{nat_tests}
 use Rattle.ddc_names.specs.declared.hash.IoHash.{IoHash}
@@ -9,9 +9,9 @@ use Rattle.ddc_model.specs.declared.entry.Entry.{Entry}
 use Rattle.ddc_model.specs.declared.entry.Entry.TheVariants.{Upload, Repin}
 use Rattle.ddc_model.specs.declared.fault.StoreFault.{StoreFault}
 use Rattle.ddc_model.specs.declared.fault.StoreFault.TheVariants.{UnknownSpace}
-use Rattle.ddc_model.specs.State.{State, blob_name, blob_at, has_space}
+use Rattle.ddc_model.specs.State.{State, blob_at, has_space}
 use Rattle.ddc_model.specs.Content.{Content, named}
-use Rattle.ddc_model.specs.Commands.{hour_of, stored, unless, with_room, EntryWhere, upload_where, upload_entry, UploadAs}
+use Rattle.ddc_model.specs.Commands.{hour_of, stored, with_room, EntryWhere, upload_where, UploadAs}
 use Rattle.ddc_model.proofs.Maps.{same_some}
 use Rattle.ddc_book.specs.Making.{full_by}
 use Rattle.ddc_book.proofs.Giving.{made_where, refused_where}

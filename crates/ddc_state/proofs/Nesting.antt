@@ -10,7 +10,7 @@ use Rattle.std.specs.Map.{lookup, set_value}
 use Rattle.std.specs.Option.{ghost_name_of, option_copied_mut}
 use Rattle.std.specs.Borrow.{MutBor}
 use Rattle.std.specs.BTreeMap.{BTreeMap, is_at, WritesThrough}
-use Rattle.std.specs.FinMap.{FinMap, get, insert, remove, retain_keys, len, get-empty, get-insert, get-remove, get-retain_keys, same_map}
+use Rattle.std.specs.FinMap.{FinMap, get, insert, remove, len, get-empty, get-insert, get-remove, get-retain_keys, same_map}
 use Rattle.ddc_names.specs.declared.hash.IoHash.{IoHash}
 use Rattle.ddc_names.specs.Orders.{name_cmp, name_exact, name_total, io_hash_cmp, io_hash_total}
 use Rattle.ddc_model.specs.declared.rows.BlobName.{BlobName}

@@ -1,4 +1,3 @@
-use Rattle.std.proofs.Common.{ℕ, List}
 use Rattle.ddc_journal.specs.Journal.{LoadsEither}
 use Rattle.ddc_book.proofs.Lent.{ready_lent, all_run}
 use Rattle.ddc_book.proofs.commit.append.Goals as goal

@@ -1,4 +1,4 @@
-use Rattle.std.proofs.Common.{◌≡◌, sym, ◌∙◌, subst, arith, ℕ, List, length, ◌≤◌}
+use Rattle.std.proofs.Common.{sym, ◌∙◌, subst, arith, ℕ, List, length, ◌≤◌}
 use Rattle.ddc_book.proofs.Lengths.{spelling_short}
 use Rattle.ddc_book.proofs.commit.written.Goals as goal
 

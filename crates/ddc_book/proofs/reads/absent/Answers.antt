@@ -1,7 +1,5 @@
-use Rattle.std.proofs.Common.{◌≡◌, ap, sym, ◌∙◌, subst, ◌+◌, []}
-use Rattle.std.specs.Prelude.{Bool, not, is_some}
-use Rattle.std.specs.BTreeSet.{BTreeSet}
-use Rattle.ddc_names.specs.declared.hash.IoHash.{IoHash}
+use Rattle.std.proofs.Common.{ap, sym, ◌∙◌, subst, ◌+◌, []}
+use Rattle.std.specs.Prelude.{not, is_some}
 use Rattle.ddc_model.specs.declared.rows.Blob.{Blob}
 use Rattle.ddc_book.proofs.Absent.{mapped, one_added, none_added, all_sought, IsSought}
 use Rattle.ddc_book.proofs.reads.absent.Goals as goal

@@ -1,6 +1,3 @@
-use Rattle.std.proofs.Common.{◌≡◌, subst}
-use Rattle.ddc_book.specs.View.{BookView}
-use Rattle.ddc_book.specs.Making.{Serves}
 use Rattle.ddc_book.proofs.Kept.{serves}
 use Rattle.ddc_book.proofs.book.Book.broken.Goals as goal
 

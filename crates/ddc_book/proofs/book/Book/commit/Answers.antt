@@ -1,12 +1,10 @@
-use Rattle.std.proofs.Common.{◌≡◌, ◌∷◌, ◌++◌, [], ap, sym, ◌∙◌, subst, ℕ, List, refl, append_assoc}
+use Rattle.std.proofs.Common.{◌≡◌, ◌∷◌, ◌++◌, [], ap, sym, ◌∙◌, subst, List, append_assoc}
 use Rattle.std.specs.Prelude.{None, true}
-use Rattle.ddc_disk.specs.Images.{devices_faults}
-use Rattle.ddc_disk.specs.declared.devices.Devices.{Devices}
 use Rattle.ddc_model.specs.declared.entry.Step.{Step}
 use Rattle.ddc_model.specs.declared.entry.Step.TheVariants.{Change, Broke}
 use Rattle.ddc_model.specs.History.{broken_by}
 use Rattle.ddc_book.specs.View.{BookView, IsBook}
-use Rattle.ddc_book.specs.Calls.{Commits, GoesOn, bytes_or_none}
+use Rattle.ddc_book.specs.Calls.{GoesOn, bytes_or_none}
 use Rattle.ddc_book.specs.Making.{IsFit}
 use Rattle.ddc_book.proofs.Steps.{broken_more}
 use Rattle.ddc_book.proofs.Kept.{body_is, stays, keeps_done, keeps_broken, goes, as_made, breaks, goes_between}

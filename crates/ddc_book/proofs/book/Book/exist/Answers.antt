@@ -1,6 +1,4 @@
-use Rattle.std.proofs.Common.{◌≡◌, ap, sym, ◌∙◌, subst, inl, inr, Ok, Err, Bool, Option, ℕ, List, refl}
-use Rattle.ddc_names.specs.declared.hash.IoHash.{IoHash}
-use Rattle.ddc_model.specs.declared.fault.StoreFault.TheVariants.{Broken, UnknownSpace}
+use Rattle.std.proofs.Common.{sym, ◌∙◌, subst, inr}
 use Rattle.ddc_model.specs.Reads.{AreAbsent}
 use Rattle.ddc_book.specs.View.{BookView}
 use Rattle.ddc_book.proofs.AbsentList.{broken_exist, unknown_exist, known_exist}

@@ -1,4 +1,4 @@
-use Rattle.std.proofs.Common.{◌≡◌, ap, sym, ◌∙◌, subst, [], Ok, None, List, Bool}
+use Rattle.std.proofs.Common.{ap, sym, ◌∙◌, subst, [], Ok, None, List, Bool}
 use Rattle.ddc_names.specs.declared.hash.IoHash.{IoHash}
 use Rattle.ddc_model.specs.Commands.{FinaliseAs}
 use Rattle.ddc_book.proofs.Giving.{refuses, makes_none}

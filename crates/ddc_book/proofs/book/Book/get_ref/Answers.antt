@@ -1,4 +1,4 @@
-use Rattle.std.proofs.Common.{◌≡◌, ap, sym, ◌∙◌, subst, inl, inr, [], Ok, Err, Some, None, Option, Result, ℕ, List, refl}
+use Rattle.std.proofs.Common.{sym, ◌∙◌, subst, inl, inr, [], Ok, Some, None, Option, Result}
 use Rattle.ddc_model.specs.declared.entry.Entry.{Entry}
 use Rattle.ddc_model.specs.declared.fault.StoreFault.{StoreFault}
 use Rattle.ddc_model.specs.Commands.{GetAs}

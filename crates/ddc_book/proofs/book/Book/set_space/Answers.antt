@@ -1,4 +1,4 @@
-use Rattle.std.proofs.Common.{◌≡◌, ap, sym, ◌∙◌, [], Some, None, ℕ, refl}
+use Rattle.std.proofs.Common.{ap, sym, ◌∙◌, [], None, ℕ, refl}
 use Rattle.ddc_model.specs.declared.entry.Entry.TheVariants.{Space}
 use Rattle.ddc_model.specs.Commands.{SpaceAs}
 use Rattle.ddc_book.specs.Making.{full_by}

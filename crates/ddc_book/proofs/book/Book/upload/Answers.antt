@@ -1,4 +1,4 @@
-use Rattle.std.proofs.Common.{◌≡◌, sym, ◌∙◌}
+use Rattle.std.proofs.Common.{sym, ◌∙◌}
 use Rattle.ddc_model.specs.declared.fault.StoreFault.TheVariants.{UnknownSpace}
 use Rattle.ddc_model.specs.Commands.{UploadAs}
 use Rattle.ddc_book.proofs.Giving.{refuses}

@@ -1,4 +1,4 @@
-use Rattle.std.proofs.Common.{◌≡◌, ap, sym, ◌∙◌, Some, ℕ, List, length}
+use Rattle.std.proofs.Common.{ap, sym, ◌∙◌, Some, ℕ, List, length}
 use Rattle.ddc_model.specs.declared.entry.Entry.TheVariants.{Upload}
 use Rattle.ddc_model.specs.declared.entry.Stored.{Stored}
 use Rattle.ddc_model.specs.Content.{named}

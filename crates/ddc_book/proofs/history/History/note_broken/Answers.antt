@@ -1,4 +1,4 @@
-use Rattle.std.proofs.Common.{◌≡◌, ap, sym, ◌∙◌}
+use Rattle.std.proofs.Common.{ap, ◌∙◌}
 use Rattle.std.specs.Prelude.{vec_len, vec_capacity}
 use Rattle.ddc_model.specs.History.{broken_by}
 use Rattle.ddc_book.proofs.Tally.{tally_broken}

@@ -1,4 +1,4 @@
-use Rattle.std.proofs.Common.{◌≡◌, ap, ◌∙◌, arith, List, ◌++◌, ◌∷◌, []}
+use Rattle.std.proofs.Common.{ap, ◌∙◌, arith, List, ◌++◌, ◌∷◌, []}
 use Rattle.std.specs.Prelude.{vec_len, vec_capacity}
 use Rattle.ddc_model.specs.declared.entry.Step.{Step}
 use Rattle.ddc_model.specs.declared.entry.Step.TheVariants.{Loaded}

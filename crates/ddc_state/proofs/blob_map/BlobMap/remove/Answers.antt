@@ -1,4 +1,4 @@
-use Rattle.std.proofs.Common.{ap, sym, ◌∙◌, ◌-◌, ◌≤◌, subst}
+use Rattle.std.proofs.Common.{ap, ◌∙◌, ◌-◌, ◌≤◌, subst}
 use Rattle.std.specs.FinMap as map
 use Rattle.ddc_model.specs.Keys.{blob_cmp, blob_total, blob_exact}
 use Rattle.ddc_state.specs.Nested.{in_spaces}

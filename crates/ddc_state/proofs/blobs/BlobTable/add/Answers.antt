@@ -1,4 +1,4 @@
-use Rattle.std.proofs.Common.{ap, sym, ◌∙◌, ◌+◌, length, arith}
+use Rattle.std.proofs.Common.{ap, ◌∙◌, arith}
 use Rattle.std.specs.FinMap as map
 use Rattle.ddc_state.proofs.Counting.{links_in_all, added}
 use Rattle.ddc_state.proofs.blobs.BlobTable.add.Goals as goal

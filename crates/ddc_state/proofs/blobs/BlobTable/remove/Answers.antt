@@ -1,5 +1,4 @@
-use Rattle.std.proofs.Common.{ap, sym, ◌∙◌, ◌≡◌, ◌+◌, ◌-◌, ◌≤◌, length, Some, arith}
-use Rattle.std.specs.FinMap as map
+use Rattle.std.proofs.Common.{ap, sym, ◌∙◌, ◌≡◌, length, arith}
 use Rattle.ddc_model.specs.Keys.{blob_cmp, blob_total, blob_exact}
 use Rattle.ddc_state.proofs.Given.{none_removed}
 use Rattle.ddc_state.proofs.Counting.{links_in_all, taken}
