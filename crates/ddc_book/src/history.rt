@@ -69,7 +69,8 @@ impl History {
         ensures steps { OnOk result (self.new ≡ self.old ++ Change entry ∷ []) }
         ensures err { OnErr result ((index.new.state ≡ index.old.state) × (self.new ≡ self.old)) }
     {
-        let limits = index.limits();
+        // an entry that has room keeps the counts within these, which have 64 bits
+        let _limits = index.limits();
         self.steps.reserve(2)?;
         index.apply(alloc, &entry)?;
         self.entries += 1;

@@ -3,25 +3,21 @@ use Rattle.std.proofs.Common.{◌≡◌, ◌⊎◌, ℕ, List, [], ◌∷◌, �
 use Rattle.std.specs.Prelude.{if◌then◌else◌}
 use Rattle.std.specs.FinMap.{get}
 use Rattle.ddc_names.specs.declared.hash.IoHash.{IoHash}
-use Rattle.ddc_names.specs.declared.reference.RefName.{RefName}
 use Rattle.ddc_link.specs.Causes.{Rose}
 use Rattle.ddc_link.specs.Writes.{AppendsFront}
 use Rattle.ddc_disk.specs.Disk.{Meaning}
-use Rattle.ref_store.specs.declared.slot.Slot.{Slot}
-use Rattle.ddc_model.specs.declared.entry.Stored.{Stored}
 use Rattle.ddc_model.specs.declared.entry.Entry.{Entry}
-use Rattle.ddc_model.specs.declared.entry.Entry.TheVariants.{Space, Upload, Repin, Put, Finalise, Delete, Touch}
 use Rattle.ddc_model.specs.declared.entry.Step.{Step}
 use Rattle.ddc_model.specs.declared.entry.Step.TheVariants.{Loaded, Change, Broke}
 use Rattle.ddc_model.specs.declared.fault.StoreFault.{StoreFault}
 use Rattle.ddc_model.specs.declared.fault.StoreFault.TheVariants.{UnknownSpace, NotFound, NotFinalised, NotPending, Full, HistoryFull, Broken, DiskFailed, Damaged}
 use Rattle.ddc_model.specs.declared.fault.StoreFault.TheVariants as faults
-use Rattle.ddc_model.specs.State.{State, blob_name, has_space}
-use Rattle.ddc_model.specs.Entries.{after, with_root, with_touch, same_hash}
+use Rattle.ddc_model.specs.State.{blob_name, has_space}
+use Rattle.ddc_model.specs.Entries.{same_hash}
 use Rattle.ddc_model.specs.Content.{named}
 use Rattle.ddc_model.specs.Sound.{Cache}
 use Rattle.ddc_model.specs.Commands.{changed, found}
-use Rattle.ddc_model.specs.History.{Past, none_yet, past_of_all, past_after, past_of, with_entry, broken_by, unless_broken, broken_or}
+use Rattle.ddc_model.specs.History.{Past, none_yet, past_of, with_entry, broken_by, unless_broken, broken_or}
 use Rattle.ddc_model.specs.Reads.{serve, served}
 use Rattle.ddc_book.specs.declared.reads.Held.{Held}
 use Rattle.ddc_book.specs.declared.reads.Opened.{Opened}
@@ -37,42 +33,17 @@ use Rattle.ddc_command.specs.Replies.{OpenStore, store_after, past_with, says_da
 use Rattle.ddc_command.specs.Replies as replies
 use Rattle.ddc_command.specs.Session.{store_of, failed_reply}
 use Rattle.ddc_command.specs.Writes.{WritesAs, TurnsAs, AnswersAs, written_turn, damaged_turn, turn_of}
+use Rattle.ddc_book.proofs.Kept.{after_limits}
+use Rattle.ddc_book.proofs.Steps.{past_more}
 use Rattle.ddc_command.proofs.Writing.{whole_front, no_text}
 
 -- ---- steps behind others
-
-past_more : (past : Past) (steps : List Step) (entry : Entry) → past_of_all past (steps ++ Change entry ∷ []) ≡ with_entry (past_of_all past steps) entry
-past_more past [] entry = refl
-past_more past (step ∷ steps) entry = past_more (past_after past step) steps entry
-
-past_broken : (past : Past) (steps : List Step) (entry : Entry) (changed : Bool) (before now : ℕ) → past_of_all past (steps ++ Change entry ∷ Broke changed before now ∷ []) ≡ with_entry (past_of_all past steps) entry
-past_broken past [] entry changed before now = refl
-past_broken past (step ∷ steps) entry changed before now = past_broken (past_after past step) steps entry changed before now
 
 broken_more : (steps : List Step) (entry : Entry) → broken_by (steps ++ Change entry ∷ []) ≡ broken_by steps
 broken_more [] entry = refl
 broken_more (Loaded limits count ∷ steps) entry = broken_more steps entry
 broken_more (Change other ∷ steps) entry = broken_more steps entry
 broken_more (Broke changed before now ∷ steps) entry = refl
-
--- ---- an entry leaves the limits
-
-touch_limits : (s : State) (name : RefName) (hour : ℕ) (slot : Option Slot) → (with_touch s name hour slot).limits ≡ s.limits
-touch_limits s name hour None = refl
-touch_limits s name hour (Some slot) = refl
-
-root_limits : (s : State) (space : List ℕ) (root : IoHash) (fresh : Option Stored) (hour : ℕ) → (with_root s space root fresh hour).limits ≡ s.limits
-root_limits s space root None hour = refl
-root_limits s space root (Some blob) hour = refl
-
-after_limits : (s : State) (entry : Entry) → (after s entry).limits ≡ s.limits
-after_limits s (Space space ttl pin) = refl
-after_limits s (Upload space blob hour) = refl
-after_limits s (Repin space hash hour) = refl
-after_limits s (Put name root fresh whole hour) = root_limits s name.space root fresh hour
-after_limits s (Finalise name hash hour) = refl
-after_limits s (Delete name hour) = refl
-after_limits s (Touch name hour) = touch_limits s name hour (get s.slots name)
 
 -- a fault told apart from another
 fault_is : {A : Type 0} (fault other : StoreFault) → ◌≡◌ {A = Result A StoreFault} (Err fault) (Err other) → fault ≡ other
@@ -121,7 +92,7 @@ module _ {D : Type 0} (tells : Bool) (meaning : D → Meaning) (old new : Option
 
   becomes_store : (bytes : List ℕ) (made : Option Entry) → Becomes book bytes next made → behind ≡ store_after store bytes made
   becomes_store bytes None is = ap (λ (b : BookView D). store_of b) is
-  becomes_store bytes (Some entry) (cache, steps) = store_is next.cache (changed book.cache bytes (Some entry)) (past_of next.steps) (with_entry (past_of book.steps) entry) cache (ap past_of steps ∙ past_more none_yet book.steps entry)
+  becomes_store bytes (Some entry) (cache, steps) = store_is next.cache (changed book.cache bytes (Some entry)) (past_of next.steps) (with_entry (past_of book.steps) entry) cache (ap past_of steps ∙ past_more none_yet book.steps (Change entry ∷ []))
 
   becomes_limits : (bytes : List ℕ) (made : Option Entry) → Becomes book bytes next made → limits_of next ≡ limits_of book
   becomes_limits bytes None is = ap (λ (b : BookView D). limits_of b) is
@@ -177,7 +148,7 @@ module _ {D : Type 0} (tells : Bool) (meaning : D → Meaning) (old new : Option
     breaks : (written : Result (Unit {0}) WriteFault) → reply (Err DiskFailed) ≡ failed_reply → Breaks book bytes next Command → Rose (faults_of meaning book) (faults_of meaning next) → WritesAs old new before now (reply (Err DiskFailed)) written
         → AnswersAs tells meaning old new before now close hour book item next (Ended ends.DiskFailed)
     breaks written text (_, value, entry, count, risen, given, cache, steps) cause w =
-        let is : behind ≡ store_after store bytes (Some entry) = store_is next.cache (changed book.cache bytes (Some entry)) (past_of next.steps) (with_entry (past_of book.steps) entry) cache (ap past_of steps ∙ past_broken none_yet book.steps entry true count risen) in
+        let is : behind ≡ store_after store bytes (Some entry) = store_is next.cache (changed book.cache bytes (Some entry)) (past_of next.steps) (with_entry (past_of book.steps) entry) cache (ap past_of steps ∙ past_more none_yet book.steps (Change entry ∷ Broke true count risen ∷ [])) in
         record {
           turned = (changes behind (value, entry, given, is), subst (AppendsFront old new) text (any_front old new before now (reply (Err DiskFailed)) written w));
           devices = devices;

@@ -28,7 +28,7 @@ impl<'a, S: Source> RequestReader<'a, S> {
     ///
     /// # Errors
     ///
-    /// `NoMemory` where there is no room for the first bytes. Nothing was taken from the source.
+    /// `NoMemory` where there is no room for the first bytes.
     pub fn new(alloc: Global, source: &'a mut S) -> Result<RequestReader<'a, S>, NoMemory>
         ensures same_reference { IfOk result (λ r. r.source.ghost_name ≡ source.entry.ghost_name) }
         ensures source { IfOk result (λ r. source_of r ≡ source.old) }

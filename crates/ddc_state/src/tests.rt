@@ -309,27 +309,61 @@ fn touch_of(alloc: Global, name: RefName) -> Result<Entry, NoMemory> {
     Ok(Entry::Touch { name, hour: 0 })
 }
 
+// What an entry does to what it names: a blob by number, or the reference.
+#[derive(Clone, Copy)]
+enum Naming {
+    Repin(u8),
+    Finalise(u8),
+    Delete,
+    Touch,
+}
+
+fn naming_of(alloc: Global, naming: Naming) -> Result<Entry, Fail> {
+    let name = name_of("game", 7)?;
+    Ok(match naming {
+        Naming::Repin(number) => repin_of(name.space, number),
+        Naming::Finalise(number) => finalise_of(alloc, name, number)?,
+        Naming::Delete => delete_of(alloc, name)?,
+        Naming::Touch => touch_of(alloc, name)?,
+    })
+}
+
+// The first of these that fits otherwise.
+fn first_other(
+    alloc: Global,
+    index: &Index,
+    rows: &[(Naming, bool)],
+) -> Result<Option<usize>, Fail> {
+    for (place, (naming, fits)) in rows.iter().copied().enumerate() {
+        let entry = naming_of(alloc, naming)?;
+        if index.fits(&entry) != fits {
+            return Ok(Some(place));
+        }
+    }
+    Ok(None)
+}
+
 #[test]
 fn what_an_entry_names_has_to_be_there(rt: HostRuntime) -> Result<(), Fail> {
     let mut index = index_with_blob(rt.alloc())?;
-    let name = name_of("game", 7)?;
-    assert!(rt; index.fits(&repin_of(space_of("game")?, 1)));
-    assert!(rt; !index.fits(&repin_of(space_of("game")?, 2)));
-    assert!(rt; !index.fits(&finalise_of(rt.alloc(), name, 1)?));
-    assert!(rt; !index.fits(&delete_of(rt.alloc(), name)?));
-    assert!(rt; !index.fits(&touch_of(rt.alloc(), name)?));
+    let rows = [
+        (Naming::Repin(1), true),
+        (Naming::Repin(2), false),
+        (Naming::Finalise(1), false),
+        (Naming::Delete, false),
+        (Naming::Touch, false),
+    ];
+    assert_eq!(rt; first_other(rt.alloc(), &index, &rows)?, None);
     // a reference whose object is pending can be finalised and taken away, and isn't served
-    assert!(rt;
-        apply(
-            rt.alloc(),
-            &mut index,
-            &put_of(rt.alloc(), name, 1, None, false, 0)?
-        )?
-    );
-    assert!(rt; index.fits(&finalise_of(rt.alloc(), name, 1)?));
-    assert!(rt; !index.fits(&finalise_of(rt.alloc(), name, 2)?));
-    assert!(rt; index.fits(&delete_of(rt.alloc(), name)?));
-    assert!(rt; !index.fits(&touch_of(rt.alloc(), name)?));
+    let put = put_of(rt.alloc(), name_of("game", 7)?, 1, None, false, 0)?;
+    assert!(rt; apply(rt.alloc(), &mut index, &put)?);
+    let rows = [
+        (Naming::Finalise(1), true),
+        (Naming::Finalise(2), false),
+        (Naming::Delete, true),
+        (Naming::Touch, false),
+    ];
+    assert_eq!(rt; first_other(rt.alloc(), &index, &rows)?, None);
     Ok(())
 }
 
