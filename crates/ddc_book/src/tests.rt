@@ -7,7 +7,6 @@ use ddc_names::{Bucket, IoHash, Namespace, NoMemory, RefKey, RefName, RefSpot, R
 use ddc_state::Checked;
 use io_hash::Intake;
 use std::alloc::Global;
-use std::test::Fail;
 use std::thread::join;
 
 // Of the byte `a`.
@@ -92,44 +91,27 @@ enum Told {
 }
 
 // A command in a namespace at an hour, and its answer.
-#[derive(Clone, Copy)]
-struct Line {
-    space: &'static str,
-    hour: u32,
-    call: Call,
-    told: Told,
-}
+type Line = (&'static str, u32, Call, Told);
 
-fn at(hour: u32, call: Call, told: Told) -> Line {
-    Line {
-        space: "game",
-        hour,
-        call,
-        told,
-    }
-}
+const GAME: &str = "game";
 
-fn refused(hour: u32, call: Call, fault: StoreFault) -> Line {
-    at(hour, call, Told::Fault(fault))
-}
+// A namespace that is never set.
+const OTHER: &str = "other";
 
-fn elsewhere(call: Call) -> Line {
-    Line {
-        space: "other",
-        ..refused(7, call, StoreFault::UnknownSpace)
-    }
-}
+const SET_SPACE: Line = (GAME, 7, Call::SetSpace, Told::Done);
 
-fn checked(alloc: Global, bytes: &[u8]) -> Result<Checked, Fail> {
+const UNKNOWN: Told = Told::Fault(StoreFault::UnknownSpace);
+
+fn checked(alloc: Global, bytes: &[u8]) -> Option<Checked> {
     let mut intake = Intake::new(alloc, bytes.len() as u64);
-    intake.take(bytes)?;
-    Ok(Checked::new(alloc, intake.finish())?)
+    intake.take(bytes).ok()?;
+    Checked::new(alloc, intake.finish()).ok()
 }
 
-fn name_of(space: Namespace, key: u8) -> Result<RefName, Fail> {
-    let bucket = Bucket::parse("maps")?;
+fn name_of(space: Namespace, key: u8) -> Option<RefName> {
+    let bucket = Bucket::parse("maps").ok()?;
     let key = RefKey([key; 20]);
-    Ok(RefName {
+    Some(RefName {
         space,
         spot: RefSpot { bucket, key },
     })
@@ -243,175 +225,188 @@ fn uploads(
     space: Namespace,
     bytes: &[u8],
     line: &Line,
-) -> Result<bool, Fail> {
-    let blob = checked(alloc, bytes)?;
+) -> bool {
+    let (_, hour, _, told) = *line;
+    let Some(blob) = checked(alloc, bytes) else {
+        return false;
+    };
     if blob.whole().bytes().len() > 67_108_864 {
-        return Ok(false);
+        return false;
     }
-    Ok(is_done(book.upload(alloc, space, blob, line.hour), line.told))
+    is_done(book.upload(alloc, space, blob, hour), told)
 }
 
-fn puts(
-    alloc: Global,
-    book: &mut Book<MemDisk>,
-    name: RefName,
-    bytes: &[u8],
-    line: &Line,
-) -> Result<bool, Fail> {
-    let object = checked(alloc, bytes)?;
+fn puts(alloc: Global, book: &mut Book<MemDisk>, name: RefName, bytes: &[u8], line: &Line) -> bool {
+    let (_, hour, _, told) = *line;
+    let Some(object) = checked(alloc, bytes) else {
+        return false;
+    };
     if !object.is_object() || object.whole().bytes().len() > 67_108_864 {
-        return Ok(false);
+        return false;
     }
-    Ok(is_list(book.put(alloc, name, object, line.hour), line.told))
+    is_list(book.put(alloc, name, object, hour), told)
 }
 
 // Whether a command of a reference answers so.
-fn of_reference(
-    alloc: Global,
-    book: &mut Book<MemDisk>,
-    name: RefName,
-    line: &Line,
-) -> Result<bool, Fail> {
-    Ok(match line.call {
-        Call::Put(_, bytes) => puts(alloc, book, name, bytes, line)?,
-        Call::Finalise(_, hash) => is_list(book.finalise(alloc, &name, hash, line.hour), line.told),
-        Call::Get(_) => is_held(book.get_ref(alloc, &name, line.hour), line.told),
-        Call::Delete(_) => is_done(book.delete(alloc, &name, line.hour), line.told),
-        Call::Peek(_) => is_reference(book.peek_ref(&name), line.told),
+fn of_reference(alloc: Global, book: &mut Book<MemDisk>, name: RefName, line: &Line) -> bool {
+    let (_, hour, call, told) = *line;
+    match call {
+        Call::Put(_, bytes) => puts(alloc, book, name, bytes, line),
+        Call::Finalise(_, hash) => is_list(book.finalise(alloc, &name, hash, hour), told),
+        Call::Get(_) => is_held(book.get_ref(alloc, &name, hour), told),
+        Call::Delete(_) => is_done(book.delete(alloc, &name, hour), told),
+        Call::Peek(_) => is_reference(book.peek_ref(&name), told),
         _ => false,
-    })
+    }
 }
 
 // Whether the command answers so.
-fn answers(alloc: Global, book: &mut Book<MemDisk>, line: &Line) -> Result<bool, Fail> {
-    let space = Namespace::parse(line.space)?;
-    Ok(match line.call {
-        Call::SetSpace => is_done(book.set_space(alloc, space, 24, 4), line.told),
-        Call::Upload(bytes) => uploads(alloc, book, space, bytes, line)?,
+fn answers(alloc: Global, book: &mut Book<MemDisk>, line: &Line) -> bool {
+    let (space, _, call, told) = *line;
+    let Ok(space) = Namespace::parse(space) else {
+        return false;
+    };
+    match call {
+        Call::SetSpace => is_done(book.set_space(alloc, space, 24, 4), told),
+        Call::Upload(bytes) => uploads(alloc, book, space, bytes, line),
         Call::Put(key, _)
         | Call::Finalise(key, _)
         | Call::Get(key)
         | Call::Delete(key)
-        | Call::Peek(key) => of_reference(alloc, book, name_of(space, key)?, line)?,
-        Call::Has(hash) => is_length(book.has_blob(&space, hash), line.told),
-        Call::Open(hash) => is_opened(book.open_blob(alloc, &space, hash), line.told),
-        Call::Exist(hashes) => is_list(book.exist(alloc, &space, hashes), line.told),
-        Call::Verify(hash) => is_done(book.verify(&space, hash), line.told),
-        Call::Hour(hash) => is_at(book, &space, &hash, line.told),
-    })
+        | Call::Peek(key) => match name_of(space, key) {
+            Some(name) => of_reference(alloc, book, name, line),
+            None => false,
+        },
+        Call::Has(hash) => is_length(book.has_blob(&space, hash), told),
+        Call::Open(hash) => is_opened(book.open_blob(alloc, &space, hash), told),
+        Call::Exist(hashes) => is_list(book.exist(alloc, &space, hashes), told),
+        Call::Verify(hash) => is_done(book.verify(&space, hash), told),
+        Call::Hour(hash) => is_at(book, &space, &hash, told),
+    }
 }
 
-// The place of the first line that is answered otherwise, from a store with the one namespace on, and the store.
-fn first_wrong(
-    alloc: Global,
-    book: Option<Book<MemDisk>>,
-    lines: &[Line],
-) -> Result<(Option<usize>, Option<Book<MemDisk>>), Fail> {
-    let Some(mut book) = book else {
-        return Ok((Some(0), None));
-    };
-    let made = answers(alloc, &mut book, &at(7, Call::SetSpace, Told::Done))?;
+// The place of the first line that is answered otherwise.
+fn first_wrong(alloc: Global, book: &mut Book<MemDisk>, lines: &[Line]) -> Option<usize> {
     for (place, line) in lines.iter().enumerate() {
-        if !answers(alloc, &mut book, line)? {
-            return Ok((Some(place), Some(book)));
+        if !answers(alloc, book, line) {
+            return Some(place);
         }
     }
-    Ok((if made { None } else { Some(0) }, Some(book)))
+    None
 }
 
-// The same, with the limits of a store that is served, and no call that fails.
-fn wrong(alloc: Global, lines: &[Line]) -> Result<Option<usize>, Fail> {
-    let (wrong, _book) = first_wrong(alloc, made(alloc, Limits::standard(), None), lines)?;
-    Ok(wrong)
+// The same, once the one namespace is set.
+fn wrong_in_space(alloc: Global, book: &mut Book<MemDisk>, lines: &[Line]) -> Option<usize> {
+    if answers(alloc, book, &SET_SPACE) {
+        first_wrong(alloc, book, lines)
+    } else {
+        Some(0)
+    }
+}
+
+// A new store with the one namespace, once the lines are answered so; or the place of the first that isn't.
+fn answered(
+    alloc: Global,
+    limits: Limits,
+    failing: Option<u64>,
+    lines: &[Line],
+) -> Result<Book<MemDisk>, usize> {
+    let Some(mut book) = made(alloc, limits, failing) else {
+        return Err(0);
+    };
+    match wrong_in_space(alloc, &mut book, lines) {
+        Some(place) => Err(place),
+        None => Ok(book),
+    }
+}
+
+// That place, with the limits of a store that is served, and no call that fails.
+fn wrong(alloc: Global, lines: &[Line]) -> Option<usize> {
+    answered(alloc, Limits::standard(), None, lines).err()
 }
 
 #[test]
-fn a_put_lists_what_is_missing_and_is_finalised_once_it_is_there(
-    rt: HostRuntime,
-) -> Result<(), Fail> {
-    let lines = [
-        at(7, Call::Put(1, TWICE_OBJECT), Told::Hashes(&[LEAF])),
-        at(7, Call::Get(1), Told::Fault(StoreFault::NotFinalised)),
-        at(7, Call::Finalise(1, TWICE), Told::Hashes(&[LEAF])),
-        at(8, Call::Upload(b"a"), Told::Done),
-        at(8, Call::Get(1), Told::Fault(StoreFault::NotFinalised)),
-        at(8, Call::Finalise(1, TWICE), Told::Hashes(&[])),
-        at(8, Call::Finalise(1, TWICE), Told::Hashes(&[])),
-        at(9, Call::Get(1), Told::Object(TWICE, TWICE_OBJECT)),
-        at(9, Call::Open(LEAF), Told::Bytes(b"a")),
-        at(9, Call::Open(TWICE), Told::Bytes(TWICE_OBJECT)),
+fn a_put_lists_what_is_missing_and_is_finalised_once_it_is_there(rt: HostRuntime) {
+    const LINES: [Line; 10] = [
+        (GAME, 7, Call::Put(1, TWICE_OBJECT), Told::Hashes(&[LEAF])),
+        (GAME, 7, Call::Get(1), Told::Fault(StoreFault::NotFinalised)),
+        (GAME, 7, Call::Finalise(1, TWICE), Told::Hashes(&[LEAF])),
+        (GAME, 8, Call::Upload(b"a"), Told::Done),
+        (GAME, 8, Call::Get(1), Told::Fault(StoreFault::NotFinalised)),
+        (GAME, 8, Call::Finalise(1, TWICE), Told::Hashes(&[])),
+        (GAME, 8, Call::Finalise(1, TWICE), Told::Hashes(&[])),
+        (GAME, 9, Call::Get(1), Told::Object(TWICE, TWICE_OBJECT)),
+        (GAME, 9, Call::Open(LEAF), Told::Bytes(b"a")),
+        (GAME, 9, Call::Open(TWICE), Told::Bytes(TWICE_OBJECT)),
     ];
-    assert_eq!(rt; wrong(rt.alloc(), &lines)?, None);
-    Ok(())
+    assert_eq!(rt; wrong(rt.alloc(), &LINES), None);
 }
 
 #[test]
-fn an_inner_object_is_missing_before_what_it_links_to(rt: HostRuntime) -> Result<(), Fail> {
-    let lines = [
-        at(7, Call::Put(1, OUTER_OBJECT), Told::Hashes(&[INNER])),
-        at(7, Call::Upload(INNER_OBJECT), Told::Done),
-        at(7, Call::Finalise(1, OUTER), Told::Hashes(&[LEAF])),
-        at(7, Call::Upload(b"a"), Told::Done),
-        at(7, Call::Finalise(1, OUTER), Told::Hashes(&[])),
-        at(7, Call::Get(1), Told::Object(OUTER, OUTER_OBJECT)),
+fn an_inner_object_is_missing_before_what_it_links_to(rt: HostRuntime) {
+    const LINES: [Line; 6] = [
+        (GAME, 7, Call::Put(1, OUTER_OBJECT), Told::Hashes(&[INNER])),
+        (GAME, 7, Call::Upload(INNER_OBJECT), Told::Done),
+        (GAME, 7, Call::Finalise(1, OUTER), Told::Hashes(&[LEAF])),
+        (GAME, 7, Call::Upload(b"a"), Told::Done),
+        (GAME, 7, Call::Finalise(1, OUTER), Told::Hashes(&[])),
+        (GAME, 7, Call::Get(1), Told::Object(OUTER, OUTER_OBJECT)),
     ];
-    assert_eq!(rt; wrong(rt.alloc(), &lines)?, None);
-    Ok(())
+    assert_eq!(rt; wrong(rt.alloc(), &LINES), None);
 }
 
 #[test]
-fn an_attached_object_that_is_none_needs_nothing_further(rt: HostRuntime) -> Result<(), Fail> {
-    let lines = [
-        at(7, Call::Upload(b"a"), Told::Done),
-        at(7, Call::Put(1, TIED_OBJECT), Told::Hashes(&[])),
+fn an_attached_object_that_is_none_needs_nothing_further(rt: HostRuntime) {
+    const LINES: [Line; 2] = [
+        (GAME, 7, Call::Upload(b"a"), Told::Done),
+        (GAME, 7, Call::Put(1, TIED_OBJECT), Told::Hashes(&[])),
     ];
-    assert_eq!(rt; wrong(rt.alloc(), &lines)?, None);
-    Ok(())
+    assert_eq!(rt; wrong(rt.alloc(), &LINES), None);
 }
 
 #[test]
-fn the_old_object_is_served_until_the_new_one_is_final(rt: HostRuntime) -> Result<(), Fail> {
-    let lines = [
-        at(7, Call::Put(1, EMPTY_OBJECT), Told::Hashes(&[])),
-        at(7, Call::Put(1, INNER_OBJECT), Told::Hashes(&[LEAF])),
-        at(7, Call::Get(1), Told::Object(EMPTY, EMPTY_OBJECT)),
-        at(7, Call::Upload(b"a"), Told::Done),
-        at(7, Call::Get(1), Told::Object(EMPTY, EMPTY_OBJECT)),
-        at(7, Call::Finalise(1, INNER), Told::Hashes(&[])),
-        at(7, Call::Get(1), Told::Object(INNER, INNER_OBJECT)),
+fn the_old_object_is_served_until_the_new_one_is_final(rt: HostRuntime) {
+    const LINES: [Line; 7] = [
+        (GAME, 7, Call::Put(1, EMPTY_OBJECT), Told::Hashes(&[])),
+        (GAME, 7, Call::Put(1, INNER_OBJECT), Told::Hashes(&[LEAF])),
+        (GAME, 7, Call::Get(1), Told::Object(EMPTY, EMPTY_OBJECT)),
+        (GAME, 7, Call::Upload(b"a"), Told::Done),
+        (GAME, 7, Call::Get(1), Told::Object(EMPTY, EMPTY_OBJECT)),
+        (GAME, 7, Call::Finalise(1, INNER), Told::Hashes(&[])),
+        (GAME, 7, Call::Get(1), Told::Object(INNER, INNER_OBJECT)),
     ];
-    assert_eq!(rt; wrong(rt.alloc(), &lines)?, None);
-    Ok(())
+    assert_eq!(rt; wrong(rt.alloc(), &LINES), None);
 }
 
 #[test]
-fn refusals_say_what_is_not_there(rt: HostRuntime) -> Result<(), Fail> {
-    let lines = [
-        elsewhere(Call::Upload(b"a")),
-        elsewhere(Call::Put(1, EMPTY_OBJECT)),
-        elsewhere(Call::Finalise(1, LEAF)),
-        elsewhere(Call::Get(1)),
-        elsewhere(Call::Open(LEAF)),
-        at(
+fn refusals_say_what_is_not_there(rt: HostRuntime) {
+    const LINES: [Line; 10] = [
+        (OTHER, 7, Call::Upload(b"a"), UNKNOWN),
+        (OTHER, 7, Call::Put(1, EMPTY_OBJECT), UNKNOWN),
+        (OTHER, 7, Call::Finalise(1, LEAF), UNKNOWN),
+        (OTHER, 7, Call::Get(1), UNKNOWN),
+        (OTHER, 7, Call::Open(LEAF), UNKNOWN),
+        (
+            GAME,
             7,
             Call::Finalise(1, LEAF),
             Told::Fault(StoreFault::NotFound),
         ),
-        at(7, Call::Get(1), Told::Fault(StoreFault::NotFound)),
-        at(7, Call::Open(LEAF), Told::Fault(StoreFault::NotFound)),
-        at(7, Call::Put(1, EMPTY_OBJECT), Told::Hashes(&[])),
-        at(
+        (GAME, 7, Call::Get(1), Told::Fault(StoreFault::NotFound)),
+        (GAME, 7, Call::Open(LEAF), Told::Fault(StoreFault::NotFound)),
+        (GAME, 7, Call::Put(1, EMPTY_OBJECT), Told::Hashes(&[])),
+        (
+            GAME,
             7,
             Call::Finalise(1, LEAF),
             Told::Fault(StoreFault::NotPending),
         ),
     ];
-    assert_eq!(rt; wrong(rt.alloc(), &lines)?, None);
-    Ok(())
+    assert_eq!(rt; wrong(rt.alloc(), &LINES), None);
 }
 
 #[test]
-fn limits_are_reached_and_not_passed(rt: HostRuntime) -> Result<(), Fail> {
+fn limits_are_reached_and_not_passed(rt: HostRuntime) {
     let limits = Limits {
         spaces: 1,
         blobs: 2,
@@ -419,20 +414,19 @@ fn limits_are_reached_and_not_passed(rt: HostRuntime) -> Result<(), Fail> {
         links: 2,
         ..Limits::standard()
     };
-    let lines = [
-        Line {
-            space: "other",
-            ..at(
-                7,
-                Call::SetSpace,
-                Told::Fault(StoreFault::Full {
-                    what: What::Spaces,
-                    limit: 1,
-                }),
-            )
-        },
-        at(7, Call::SetSpace, Told::Done),
-        at(
+    const LINES: [Line; 9] = [
+        (
+            OTHER,
+            7,
+            Call::SetSpace,
+            Told::Fault(StoreFault::Full {
+                what: What::Spaces,
+                limit: 1,
+            }),
+        ),
+        (GAME, 7, Call::SetSpace, Told::Done),
+        (
+            GAME,
             7,
             Call::Upload(THREE_TIMES),
             Told::Fault(StoreFault::Full {
@@ -440,8 +434,9 @@ fn limits_are_reached_and_not_passed(rt: HostRuntime) -> Result<(), Fail> {
                 limit: 2,
             }),
         ),
-        at(7, Call::Put(1, TWICE_OBJECT), Told::Hashes(&[LEAF])),
-        at(
+        (GAME, 7, Call::Put(1, TWICE_OBJECT), Told::Hashes(&[LEAF])),
+        (
+            GAME,
             7,
             Call::Put(2, TWICE_OBJECT),
             Told::Fault(StoreFault::Full {
@@ -449,8 +444,9 @@ fn limits_are_reached_and_not_passed(rt: HostRuntime) -> Result<(), Fail> {
                 limit: 1,
             }),
         ),
-        at(7, Call::Upload(b"a"), Told::Done),
-        at(
+        (GAME, 7, Call::Upload(b"a"), Told::Done),
+        (
+            GAME,
             7,
             Call::Upload(b"b"),
             Told::Fault(StoreFault::Full {
@@ -458,112 +454,123 @@ fn limits_are_reached_and_not_passed(rt: HostRuntime) -> Result<(), Fail> {
                 limit: 2,
             }),
         ),
-        at(7, Call::Upload(b"a"), Told::Done),
-        at(7, Call::Hour(LEAF), Told::At(7)),
+        (GAME, 7, Call::Upload(b"a"), Told::Done),
+        (GAME, 7, Call::Hour(LEAF), Told::At(7)),
     ];
-    let (wrong, _book) = first_wrong(rt.alloc(), made(rt.alloc(), limits, None), &lines)?;
-    assert_eq!(rt; wrong, None);
-    Ok(())
+    assert_eq!(rt; answered(rt.alloc(), limits, None, &LINES).err(), None);
 }
 
 #[test]
-fn a_blob_that_is_there_is_pinned_anew(rt: HostRuntime) -> Result<(), Fail> {
-    let lines = [
-        at(7, Call::Upload(b"a"), Told::Done),
-        at(9, Call::Upload(b"a"), Told::Done),
-        at(8, Call::Upload(b"a"), Told::Done),
-        at(9, Call::Hour(LEAF), Told::At(9)),
+fn a_blob_that_is_there_is_pinned_anew(rt: HostRuntime) {
+    const LINES: [Line; 4] = [
+        (GAME, 7, Call::Upload(b"a"), Told::Done),
+        (GAME, 9, Call::Upload(b"a"), Told::Done),
+        (GAME, 8, Call::Upload(b"a"), Told::Done),
+        (GAME, 9, Call::Hour(LEAF), Told::At(9)),
     ];
-    assert_eq!(rt; wrong(rt.alloc(), &lines)?, None);
-    Ok(())
+    assert_eq!(rt; wrong(rt.alloc(), &LINES), None);
 }
 
 #[test]
-fn a_blob_and_a_reference_are_read(rt: HostRuntime) -> Result<(), Fail> {
-    let lines = [
-        at(7, Call::Upload(b"a"), Told::Done),
-        at(7, Call::Put(1, INNER_OBJECT), Told::Hashes(&[])),
-        at(7, Call::Peek(1), Told::Reference(INNER, 23)),
-        at(7, Call::Has(LEAF), Told::Length(1)),
-        at(7, Call::Verify(INNER), Told::Done),
-        at(
+fn a_blob_and_a_reference_are_read(rt: HostRuntime) {
+    const LINES: [Line; 17] = [
+        (GAME, 7, Call::Upload(b"a"), Told::Done),
+        (GAME, 7, Call::Put(1, INNER_OBJECT), Told::Hashes(&[])),
+        (GAME, 7, Call::Peek(1), Told::Reference(INNER, 23)),
+        (GAME, 7, Call::Has(LEAF), Told::Length(1)),
+        (GAME, 7, Call::Verify(INNER), Told::Done),
+        (
+            GAME,
             7,
             Call::Exist(&[TWICE, LEAF, EMPTY, TWICE]),
             Told::Hashes(&[TWICE, EMPTY]),
         ),
-        at(7, Call::Delete(1), Told::Done),
-        refused(7, Call::Get(1), StoreFault::NotFound),
-        refused(7, Call::Peek(1), StoreFault::NotFound),
-        refused(7, Call::Delete(1), StoreFault::NotFound),
-        refused(7, Call::Has(TWICE), StoreFault::NotFound),
-        refused(7, Call::Verify(TWICE), StoreFault::NotFound),
-        elsewhere(Call::Peek(1)),
-        elsewhere(Call::Delete(1)),
-        elsewhere(Call::Has(LEAF)),
-        elsewhere(Call::Verify(LEAF)),
-        elsewhere(Call::Exist(&[LEAF])),
+        (GAME, 7, Call::Delete(1), Told::Done),
+        (GAME, 7, Call::Get(1), Told::Fault(StoreFault::NotFound)),
+        (GAME, 7, Call::Peek(1), Told::Fault(StoreFault::NotFound)),
+        (GAME, 7, Call::Delete(1), Told::Fault(StoreFault::NotFound)),
+        (GAME, 7, Call::Has(TWICE), Told::Fault(StoreFault::NotFound)),
+        (
+            GAME,
+            7,
+            Call::Verify(TWICE),
+            Told::Fault(StoreFault::NotFound),
+        ),
+        (OTHER, 7, Call::Peek(1), UNKNOWN),
+        (OTHER, 7, Call::Delete(1), UNKNOWN),
+        (OTHER, 7, Call::Has(LEAF), UNKNOWN),
+        (OTHER, 7, Call::Verify(LEAF), UNKNOWN),
+        (OTHER, 7, Call::Exist(&[LEAF]), UNKNOWN),
     ];
-    assert_eq!(rt; wrong(rt.alloc(), &lines)?, None);
-    Ok(())
+    assert_eq!(rt; wrong(rt.alloc(), &LINES), None);
 }
 
 // The namespace is the first of the three entries. Where there is no room for a fourth, a reference isn't touched.
 #[test]
-fn a_full_history_refuses_changes_and_serves(rt: HostRuntime) -> Result<(), Fail> {
+fn a_full_history_refuses_changes_and_serves(rt: HostRuntime) {
+    const FULL: Told = Told::Fault(StoreFault::HistoryFull {
+        entries: 3,
+        links: 0,
+    });
+    const LINES: [Line; 6] = [
+        (GAME, 7, Call::Put(1, EMPTY_OBJECT), Told::Hashes(&[])),
+        (GAME, 7, Call::Upload(b"a"), Told::Done),
+        (GAME, 7, Call::Upload(b"b"), FULL),
+        (GAME, 7, Call::Delete(1), FULL),
+        (GAME, 9, Call::Get(1), Told::Object(EMPTY, EMPTY_OBJECT)),
+        (GAME, 7, Call::Upload(b"a"), Told::Done),
+    ];
     let limits = Limits {
         entries: 3,
         ..Limits::standard()
     };
-    let full = StoreFault::HistoryFull {
-        entries: 3,
-        links: 0,
-    };
-    let lines = [
-        at(7, Call::Put(1, EMPTY_OBJECT), Told::Hashes(&[])),
-        at(7, Call::Upload(b"a"), Told::Done),
-        refused(7, Call::Upload(b"b"), full),
-        refused(7, Call::Delete(1), full),
-        at(9, Call::Get(1), Told::Object(EMPTY, EMPTY_OBJECT)),
-        at(7, Call::Upload(b"a"), Told::Done),
-    ];
-    let (wrong, book) = first_wrong(rt.alloc(), made(rt.alloc(), limits, None), &lines)?;
-    assert_eq!(rt; wrong, None);
-    assert!(rt; book.is_some_and(|book: Book<MemDisk>| book.count() == 4));
-    Ok(())
+    match answered(rt.alloc(), limits, None, &LINES) {
+        Ok(book) => assert_eq!(rt; book.count(), 4),
+        Err(place) => panic!(rt; "line {place}"),
+    }
 }
 
-// How many calls were made of the first file, once the lines are answered so.
-fn calls_after(alloc: Global, lines: &[Line]) -> Result<Option<u64>, Fail> {
-    let (wrong, book) = first_wrong(alloc, made(alloc, Limits::standard(), None), lines)?;
-    match book {
-        Some(book) if wrong.is_none() => Ok(Some(book.into_devices().first.calls())),
-        _ => Ok(None),
+// The first file of a store, once the lines are answered so.
+fn first_after(alloc: Global, lines: &[Line]) -> Result<MemDisk, usize> {
+    match answered(alloc, Limits::standard(), None, lines) {
+        Ok(book) => Ok(book.into_devices().first),
+        Err(place) => Err(place),
+    }
+}
+
+// How many calls were made of it then.
+fn calls_after(alloc: Global, lines: &[Line]) -> Result<u64, usize> {
+    match first_after(alloc, lines) {
+        Ok(first) => Ok(first.calls()),
+        Err(place) => Err(place),
     }
 }
 
 #[test]
-fn an_upload_takes_four_device_calls(rt: HostRuntime) -> Result<(), Fail> {
-    assert_eq!(rt; calls_after(rt.alloc(), &[])?, Some(15));
-    let lines = [at(7, Call::Upload(b"a"), Told::Done)];
-    assert_eq!(rt; calls_after(rt.alloc(), &lines)?, Some(19));
-    Ok(())
+fn an_upload_takes_four_device_calls(rt: HostRuntime) {
+    assert_eq!(rt; calls_after(rt.alloc(), &[]), Ok(15));
+    const LINES: [Line; 1] = [(GAME, 7, Call::Upload(b"a"), Told::Done)];
+    assert_eq!(rt; calls_after(rt.alloc(), &LINES), Ok(19));
 }
 
-// How many changes a store has that is opened after so many calls of its first file and a crash.
-fn changes_after(
-    alloc: Global,
-    first: &MemDisk,
-    calls: u64,
-    choice: u64,
-) -> Result<Option<u64>, Fail> {
+// How many changes a store has that is opened with this first file.
+fn changes_of(alloc: Global, first: MemDisk) -> Option<u64> {
     let devices = Devices {
-        first: first.crashed(calls, choice)?,
+        first,
         second: MemDisk::new(alloc, Rows::new(alloc)),
         blobs: MemDisk::new(alloc, Rows::new(alloc)),
     };
     match Book::load(alloc, devices, Limits::standard()) {
-        Ok(book) => Ok(Some(book.count().saturating_sub(1))),
-        Err(_back) => Ok(None),
+        Ok(book) => Some(book.count().saturating_sub(1)),
+        Err(_back) => None,
+    }
+}
+
+// The same, after so many calls of its first file and a crash.
+fn changes_after(alloc: Global, first: &MemDisk, calls: u64, choice: u64) -> Option<u64> {
+    match first.crashed(calls, choice) {
+        Ok(first) => changes_of(alloc, first),
+        Err(NoMemory) => None,
     }
 }
 
@@ -576,61 +583,65 @@ fn are_changes(found: Option<u64>, calls: u64) -> bool {
     }
 }
 
-#[test]
-fn a_crash_leaves_the_changes_before_it(rt: HostRuntime) -> Result<(), Fail> {
-    let alloc = rt.alloc();
-    let lines = [
-        at(7, Call::Put(1, TWICE_OBJECT), Told::Hashes(&[LEAF])),
-        at(8, Call::Upload(b"a"), Told::Done),
-        at(9, Call::Upload(b"a"), Told::Done),
-        at(9, Call::Finalise(1, TWICE), Told::Hashes(&[])),
-        at(10, Call::Get(1), Told::Object(TWICE, TWICE_OBJECT)),
-        at(10, Call::SetSpace, Told::Done),
-        at(10, Call::Delete(1), Told::Done),
-    ];
-    let (wrong, book) = first_wrong(alloc, made(alloc, Limits::standard(), None), &lines)?;
-    assert_eq!(rt; wrong, None);
-    let Some(book) = book else {
-        assert!(rt; false);
-        return Ok(());
-    };
-    let first = book.into_devices().first;
-    assert_eq!(rt; first.calls(), 43);
-    for calls in 11..44 {
-        for choice in 0..4 {
-            assert!(rt; are_changes(changes_after(alloc, &first, calls, choice)?, calls));
+fn each_choice_leaves_changes(alloc: Global, first: &MemDisk, calls: u64) -> bool {
+    for choice in 0..4 {
+        if !are_changes(changes_after(alloc, first, calls, choice), calls) {
+            return false;
         }
     }
-    Ok(())
+    true
+}
+
+#[test]
+fn a_crash_leaves_the_changes_before_it(rt: HostRuntime) {
+    const LINES: [Line; 7] = [
+        (GAME, 7, Call::Put(1, TWICE_OBJECT), Told::Hashes(&[LEAF])),
+        (GAME, 8, Call::Upload(b"a"), Told::Done),
+        (GAME, 9, Call::Upload(b"a"), Told::Done),
+        (GAME, 9, Call::Finalise(1, TWICE), Told::Hashes(&[])),
+        (GAME, 10, Call::Get(1), Told::Object(TWICE, TWICE_OBJECT)),
+        (GAME, 10, Call::SetSpace, Told::Done),
+        (GAME, 10, Call::Delete(1), Told::Done),
+    ];
+    let first = match first_after(rt.alloc(), &LINES) {
+        Ok(first) => first,
+        Err(place) => panic!(rt; "line {place}"),
+    };
+    assert_eq!(rt; first.calls(), 43);
+    for calls in 11..44 {
+        assert!(rt;
+            each_choice_leaves_changes(rt.alloc(), &first, calls),
+            "{calls}"
+        );
+    }
 }
 
 // The last call of the upload fails.
 #[test]
-fn a_store_whose_disk_failed_does_nothing_more(rt: HostRuntime) -> Result<(), Fail> {
-    let broken = StoreFault::Broken { faults: 1 };
-    let lines = [
-        refused(7, Call::Upload(b"a"), StoreFault::DiskFailed),
-        refused(7, Call::SetSpace, broken),
-        refused(7, Call::Upload(b"a"), broken),
-        refused(7, Call::Put(1, EMPTY_OBJECT), broken),
-        refused(7, Call::Finalise(1, EMPTY), broken),
-        refused(7, Call::Get(1), broken),
-        refused(7, Call::Delete(1), broken),
-        refused(7, Call::Peek(1), broken),
-        refused(7, Call::Has(LEAF), broken),
-        refused(7, Call::Open(LEAF), broken),
-        refused(7, Call::Exist(&[LEAF]), broken),
-        refused(7, Call::Verify(LEAF), broken),
+fn a_store_whose_disk_failed_does_nothing_more(rt: HostRuntime) {
+    const BROKEN: Told = Told::Fault(StoreFault::Broken { faults: 1 });
+    const LINES: [Line; 12] = [
+        (
+            GAME,
+            7,
+            Call::Upload(b"a"),
+            Told::Fault(StoreFault::DiskFailed),
+        ),
+        (GAME, 7, Call::SetSpace, BROKEN),
+        (GAME, 7, Call::Upload(b"a"), BROKEN),
+        (GAME, 7, Call::Put(1, EMPTY_OBJECT), BROKEN),
+        (GAME, 7, Call::Finalise(1, EMPTY), BROKEN),
+        (GAME, 7, Call::Get(1), BROKEN),
+        (GAME, 7, Call::Delete(1), BROKEN),
+        (GAME, 7, Call::Peek(1), BROKEN),
+        (GAME, 7, Call::Has(LEAF), BROKEN),
+        (GAME, 7, Call::Open(LEAF), BROKEN),
+        (GAME, 7, Call::Exist(&[LEAF]), BROKEN),
+        (GAME, 7, Call::Verify(LEAF), BROKEN),
     ];
-    let (wrong, book) = first_wrong(
-        rt.alloc(),
-        made(rt.alloc(), Limits::standard(), Some(18)),
-        &lines,
-    )?;
-    assert_eq!(rt; wrong, None);
-    let Some(book) = book else {
-        assert!(rt; false);
-        return Ok(());
+    let book = match answered(rt.alloc(), Limits::standard(), Some(18), &LINES) {
+        Ok(book) => book,
+        Err(place) => panic!(rt; "line {place}"),
     };
     assert_eq!(rt; (book.count(), book.faults()), (4, 1));
     assert!(rt;
@@ -643,50 +654,54 @@ fn a_store_whose_disk_failed_does_nothing_more(rt: HostRuntime) -> Result<(), Fa
             })
         )
     );
-    Ok(())
+}
+
+// Whether a `b` is written in the place of the last byte before the closing gate.
+fn writes_before_the_gate(file: &mut MemDisk) -> bool {
+    match file.len() {
+        Ok(len) => file.write_at(len.saturating_sub(2), b"b").is_ok(),
+        Err(_) => false,
+    }
+}
+
+// A store with the blob `a`, opened with that byte changed.
+fn changed(alloc: Global) -> Option<Book<MemDisk>> {
+    const LINES: [Line; 1] = [(GAME, 7, Call::Upload(b"a"), Told::Done)];
+    let Ok(book) = answered(alloc, Limits::standard(), None, &LINES) else {
+        return None;
+    };
+    let mut devices = book.into_devices();
+    if !writes_before_the_gate(&mut devices.first) {
+        return None;
+    }
+    Book::load(alloc, devices, Limits::standard()).ok()
 }
 
 // The blob is the last byte before the closing gate.
 #[test]
-fn bytes_that_were_changed_are_damaged(rt: HostRuntime) -> Result<(), Fail> {
-    let alloc = rt.alloc();
-    let lines = [at(7, Call::Upload(b"a"), Told::Done)];
-    let (wrong, book) = first_wrong(alloc, made(alloc, Limits::standard(), None), &lines)?;
-    assert_eq!(rt; wrong, None);
-    let Some(book) = book else {
-        assert!(rt; false);
-        return Ok(());
-    };
-    let mut devices = book.into_devices();
-    let Ok(len) = devices.first.len() else {
-        assert!(rt; false);
-        return Ok(());
-    };
-    assert_eq!(rt; devices.first.write_at(len.saturating_sub(2), b"b"), Ok(()));
-    let Ok(mut book) = Book::load(alloc, devices, Limits::standard()) else {
-        assert!(rt; false);
-        return Ok(());
-    };
-    let damaged = StoreFault::Damaged {
+fn bytes_that_were_changed_are_damaged(rt: HostRuntime) {
+    const DAMAGED: Told = Told::Fault(StoreFault::Damaged {
         named: LEAF,
         found: OTHER_LEAF,
+    });
+    const LINES: [Line; 2] = [
+        (GAME, 7, Call::Verify(LEAF), DAMAGED),
+        (GAME, 7, Call::Open(LEAF), DAMAGED),
+    ];
+    let Some(mut book) = changed(rt.alloc()) else {
+        panic!(rt; "no store");
     };
-    assert!(rt; answers(alloc, &mut book, &refused(7, Call::Verify(LEAF), damaged))?);
-    assert!(rt; answers(alloc, &mut book, &refused(7, Call::Open(LEAF), damaged))?);
-    Ok(())
+    assert_eq!(rt; first_wrong(rt.alloc(), &mut book, &LINES), None);
 }
 
 #[test]
-fn a_store_goes_from_thread_to_thread(rt: HostRuntime) -> Result<(), Fail> {
-    let alloc = rt.alloc();
-    let (Some(one), Some(other)) = (
-        made(alloc, Limits::standard(), None),
-        made(alloc, Limits::standard(), None),
-    ) else {
-        assert!(rt; false);
-        return Ok(());
+fn a_store_goes_from_thread_to_thread(rt: HostRuntime) {
+    let Some(one) = made(rt.alloc(), Limits::standard(), None) else {
+        panic!(rt; "no store");
+    };
+    let Some(other) = made(rt.alloc(), Limits::standard(), None) else {
+        panic!(rt; "no store");
     };
     let (front, back) = join(&rt, || one.into_devices(), || other.into_devices());
     assert_eq!(rt; (front.faults(), back.faults()), (0, 0));
-    Ok(())
 }

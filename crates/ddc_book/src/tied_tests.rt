@@ -3,7 +3,7 @@
 ghost use Rattle.ddc_disk.specs.Images.{devices_line};
 ghost use Rattle.ddc_book.specs.Tied.{GoesOnFrom};
 
-use crate::{Book, Opened, Opening, StoreFault, Tied};
+use crate::{Book, Held, Opened, Opening, StoreFault, Tied};
 use ddc_disk::{Devices, Disk, MemDisk};
 use ddc_model::Limits;
 use ddc_names::{Bucket, IoHash, Namespace, RefKey, RefName, RefSpot, Rows};
@@ -11,7 +11,6 @@ use ddc_state::Checked;
 use io_hash::Intake;
 use std::alloc::Global;
 use std::marker::Brand;
-use std::test::Fail;
 use std::thread::{Threads, join};
 
 // Of the byte `a`.
@@ -91,6 +90,27 @@ fn listed(answer: Result<Rows<IoHash>, StoreFault>) -> Option<u64> {
     }
 }
 
+fn served_length(answer: Result<Held, StoreFault>) -> Option<u64> {
+    match answer {
+        Ok(held) => Some(held.bytes.len() as u64),
+        Err(_) => None,
+    }
+}
+
+fn opened_length(answer: Result<Opened, StoreFault>) -> Option<u64> {
+    match answer {
+        Ok(Opened::Whole(bytes)) => Some(bytes.len() as u64),
+        Err(_) => None,
+    }
+}
+
+fn peeked_length(answer: Result<(IoHash, u64), StoreFault>) -> Option<u64> {
+    match answer {
+        Ok((_, len)) => Some(len),
+        Err(_) => None,
+    }
+}
+
 fn upload<D: Disk, K: Opening>(
     alloc: Global,
     tied: &mut Tied<D, K>,
@@ -115,6 +135,45 @@ fn put<D: Disk, K: Opening>(
     listed(tied.put(alloc, name, object, 7))
 }
 
+// The number of steps, where that many are listed.
+fn counted<D: Disk, K: Opening>(tied: &Tied<D, K>) -> Option<u64> {
+    let count = tied.count();
+    if tied.steps().len() as u64 == count {
+        Some(count)
+    } else {
+        None
+    }
+}
+
+fn name_in(space: Namespace) -> Option<RefName> {
+    let bucket = Bucket::parse("maps").ok()?;
+    let key = RefKey([1; 20]);
+    Some(RefName {
+        space,
+        spot: RefSpot { bucket, key },
+    })
+}
+
+// What a command of the reference answers, where it is done.
+fn of_reference<D: Disk, K: Opening>(
+    alloc: Global,
+    tied: &mut Tied<D, K>,
+    name: RefName,
+    call: Call,
+) -> Option<u64> {
+    match call {
+        Call::Put => match checked(alloc, INNER_OBJECT) {
+            Some(object) => put(alloc, tied, name, object),
+            None => None,
+        },
+        Call::Finalise => listed(tied.finalise(alloc, &name, INNER, 7)),
+        Call::Get => served_length(tied.get_ref(alloc, &name, 7)),
+        Call::Peek => peeked_length(tied.peek_ref(&name)),
+        Call::Delete => done(tied.delete(alloc, &name, 7)),
+        _ => None,
+    }
+}
+
 // What a command answers, where it is done.
 fn answer<D: Disk, K: Opening>(
     alloc: Global,
@@ -122,50 +181,69 @@ fn answer<D: Disk, K: Opening>(
     space: Namespace,
     call: Call,
 ) -> Option<u64> {
-    let bucket = Bucket::parse("maps").ok()?;
-    let key = RefKey([1; 20]);
-    let name = RefName {
-        space,
-        spot: RefSpot { bucket, key },
-    };
     match call {
         Call::SetSpace => done(tied.set_space(alloc, space, 24, 4)),
-        Call::Put => put(alloc, tied, name, checked(alloc, INNER_OBJECT)?),
-        Call::Upload => upload(alloc, tied, space, checked(alloc, b"a")?),
-        Call::Finalise => listed(tied.finalise(alloc, &name, INNER, 7)),
-        Call::Get => Some(tied.get_ref(alloc, &name, 7).ok()?.bytes.len() as u64),
-        Call::Peek => Some(tied.peek_ref(&name).ok()?.1),
-        Call::Has => tied.has_blob(&space, LEAF).ok(),
-        Call::Open => match tied.open_blob(alloc, &space, LEAF) {
-            Ok(Opened::Whole(bytes)) => Some(bytes.len() as u64),
-            Err(_) => None,
+        Call::Upload => match checked(alloc, b"a") {
+            Some(blob) => upload(alloc, tied, space, blob),
+            None => None,
         },
+        Call::Put | Call::Finalise | Call::Get | Call::Peek | Call::Delete => {
+            of_reference(alloc, tied, name_in(space)?, call)
+        }
+        Call::Has => tied.has_blob(&space, LEAF).ok(),
+        Call::Open => opened_length(tied.open_blob(alloc, &space, LEAF)),
         Call::Exist => listed(tied.exist(alloc, &space, &[LEAF, OTHER_LEAF])),
         Call::Verify => done(tied.verify(&space, LEAF)),
-        Call::Delete => done(tied.delete(alloc, &name, 7)),
         Call::Blobs => Some(tied.index().blob_count()),
-        Call::Steps if tied.steps().len() as u64 == tied.count() => Some(tied.count()),
-        Call::Steps => None,
+        Call::Steps => counted(tied),
         Call::Faults => Some(tied.faults()),
     }
 }
 
-// The place of the first command that is answered otherwise, and the store.
+// The place of the first command that is answered otherwise.
+fn first_wrong<D: Disk, K: Opening>(
+    alloc: Global,
+    tied: &mut Tied<D, K>,
+    space: Namespace,
+) -> Option<usize> {
+    for (place, (call, told)) in SESSION.iter().copied().enumerate() {
+        if answer(alloc, tied, space, call) != Some(told) {
+            return Some(place);
+        }
+    }
+    None
+}
+
+// The same, and the store.
 fn session<D: Disk, K: Opening>(
     alloc: Global,
     tied: Tied<D, K>,
     space: Namespace,
 ) -> (Tied<D, K>, Option<usize>) {
     let mut tied = tied;
-    for (place, (call, told)) in SESSION.iter().copied().enumerate() {
-        if answer(alloc, &mut tied, space, call) != Some(told) {
-            return (tied, Some(place));
-        }
-    }
-    (tied, None)
+    let wrong = first_wrong(alloc, &mut tied, space);
+    (tied, wrong)
 }
 
-// Another thread serves a session of a new store, and this one stores a blob then.
+// Another thread serves a session, and this one stores a blob then.
+fn share<D: Disk + Drop + Send, K: Opening + Send + Sync, R: Threads + Sync>(
+    rt: &R,
+    alloc: Global,
+    tied: Tied<D, K>,
+    space: Namespace,
+) -> (Tied<D, K>, Option<usize>) {
+    let ((mut tied, wrong), blob) = join(
+        rt,
+        move || session(alloc, tied, space),
+        || checked(alloc, b"b"),
+    );
+    if let Some(blob) = blob {
+        let _ = upload(alloc, &mut tied, space, blob);
+    }
+    (tied, wrong)
+}
+
+// The store is a new one.
 fn run<D: Disk + Drop + Send, K: Opening + Send + Sync, R: Threads + Sync>(
     rt: &R,
     alloc: Global,
@@ -175,20 +253,14 @@ fn run<D: Disk + Drop + Send, K: Opening + Send + Sync, R: Threads + Sync>(
     requires { GoesOnFrom K.start D.meaning devices }
     ensures { GoesOnFrom K.start D.meaning result.0 }
 {
-    let book = match Book::create(alloc, devices, Limits::standard()) {
-        Ok(book) => book,
-        Err((back, _)) => return (back, Some(0)),
-    };
-    let tied: Tied<D, K> = Tied::new(book);
-    let ((mut tied, wrong), blob) = join(
-        rt,
-        move || session(alloc, tied, space),
-        || checked(alloc, b"b"),
-    );
-    if let Some(blob) = blob {
-        let _ = upload(alloc, &mut tied, space, blob);
+    match Book::create(alloc, devices, Limits::standard()) {
+        Ok(book) => {
+            let tied: Tied<D, K> = Tied::new(book);
+            let (tied, wrong) = share(rt, alloc, tied, space);
+            (tied.into_devices(), wrong)
+        }
+        Err((back, _)) => (back, Some(0)),
     }
-    (tied.into_devices(), wrong)
 }
 
 // What comes back are the devices that were handed in.
@@ -203,23 +275,31 @@ fn served<D: Disk + Drop + Send, R: Threads + Sync>(
     run::<D, Brand, R>(rt, alloc, devices, space)
 }
 
+// The number of steps of a store that these devices open to, and the length of the other leaf there.
+fn opened(
+    alloc: Global,
+    devices: Devices<MemDisk>,
+    space: Namespace,
+) -> Option<(u64, Result<u64, StoreFault>)> {
+    match Book::load(alloc, devices, Limits::standard()) {
+        Ok(book) => Some((book.count(), book.has_blob(&space, OTHER_LEAF))),
+        Err(_back) => None,
+    }
+}
+
 #[test]
-fn another_thread_serves_a_tied_store(rt: HostRuntime) -> Result<(), Fail> {
+fn another_thread_serves_a_tied_store(rt: HostRuntime) {
     let alloc = rt.alloc();
     let devices = Devices {
         first: MemDisk::new(alloc, Rows::new(alloc)),
         second: MemDisk::new(alloc, Rows::new(alloc)),
         blobs: MemDisk::new(alloc, Rows::new(alloc)),
     };
-    let space = Namespace::parse("game")?;
+    let Ok(space) = Namespace::parse("game") else {
+        panic!(rt; "no namespace");
+    };
     let (back, wrong) = served(&rt, alloc, devices, space);
     assert_eq!(rt; wrong, None);
     assert_eq!(rt; back.first.calls(), 35);
-    let Ok(book) = Book::load(alloc, back, Limits::standard()) else {
-        assert!(rt; false);
-        return Ok(());
-    };
-    assert_eq!(rt; book.count(), 7);
-    assert_eq!(rt; book.has_blob(&space, OTHER_LEAF), Ok(1));
-    Ok(())
+    assert_eq!(rt; opened(alloc, back, space), Some((7, Ok(1))));
 }
