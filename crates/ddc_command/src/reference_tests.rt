@@ -1,5 +1,7 @@
 // Streams over references. Hashes are b3sum's: 17762f.. is that of the byte `a`.
-use crate::tests::{joined, run};
+use crate::tests::{Exchange, check_stream};
+use std::alloc::Global;
+use std::process::Abort;
 use std::test::Fail;
 
 const PUT_EMPTY_OBJECT: &[u8] =
@@ -116,216 +118,108 @@ const FINALISE_NOTHING_ELSEWHERE: &[u8] =
 const UNKNOWN_NAMESPACE: &[u8] =
     b"HTTP/1.1 404 Not Found\r\nContent-Type: application/json\r\nContent-Length: 29\r\n\r\n{\"error\":\"unknown_namespace\"}";
 
-#[test]
-fn an_object_without_attachments_is_finalised_by_its_put(rt: HostRuntime) -> Result<(), Fail> {
-    let input = joined(
-        rt.alloc(),
-        &[
-            PUT_EMPTY_OBJECT,
-            GET_REF,
-            PUT_EMPTY_OBJECT,
-            PUT_NULLS_UNDER_NULLS,
-            GET_REF_UNDER_NULLS,
-        ],
-    )?;
-    let wanted = joined(
-        rt.alloc(),
-        &[
-            NEEDS_NOTHING,
-            SERVED_EMPTY_OBJECT,
-            NEEDS_NOTHING,
-            NEEDS_NOTHING,
-            SERVED_NULLS,
-        ],
-    )?;
+// Checks that each request gets the reply beside it, whether the stream comes whole or byte by byte.
+fn check_replies(rt: &impl Abort, alloc: Global, exchanges: &[Exchange]) -> Result<(), Fail> {
     for size in [0, 1] {
-        let ran = run(rt.alloc(), &input, size, &[], &[])?;
-        assert_eq!(rt; ran.status, 0);
-        assert!(rt; ran.written.as_slice() == wanted.as_slice());
-        assert!(rt; ran.noted.is_empty());
+        check_stream(rt, alloc, exchanges, size, 0, b"")?;
     }
     Ok(())
 }
 
+const WITHOUT_ATTACHMENTS: &[Exchange] = &[
+    (PUT_EMPTY_OBJECT, NEEDS_NOTHING),
+    (GET_REF, SERVED_EMPTY_OBJECT),
+    (PUT_EMPTY_OBJECT, NEEDS_NOTHING),
+    (PUT_NULLS_UNDER_NULLS, NEEDS_NOTHING),
+    (GET_REF_UNDER_NULLS, SERVED_NULLS),
+];
+
+#[test]
+fn an_object_without_attachments_is_finalised_by_its_put(rt: HostRuntime) -> Result<(), Fail> {
+    check_replies(&rt, rt.alloc(), WITHOUT_ATTACHMENTS)
+}
+
+const BROKEN: &[Exchange] = &[
+    (PUT_BROKEN_0205AABBCC, NO_OBJECT_AT_0),
+    (PUT_BROKEN_02020100, NO_OBJECT_AT_3),
+    (PUT_BROKEN_020000, NO_OBJECT_AT_2),
+    (PUT_BROKEN_040100, NO_OBJECT_AT_0),
+    (PUT_BROKEN_NOTHING, NO_OBJECT_AT_0),
+    (GET_REF, NOT_FOUND),
+];
+
 #[test]
 fn bytes_that_are_no_object_are_refused_with_their_place(rt: HostRuntime) -> Result<(), Fail> {
-    let input = joined(
-        rt.alloc(),
-        &[
-            PUT_BROKEN_0205AABBCC,
-            PUT_BROKEN_02020100,
-            PUT_BROKEN_020000,
-            PUT_BROKEN_040100,
-            PUT_BROKEN_NOTHING,
-            GET_REF,
-        ],
-    )?;
-    let wanted = joined(
-        rt.alloc(),
-        &[
-            NO_OBJECT_AT_0,
-            NO_OBJECT_AT_3,
-            NO_OBJECT_AT_2,
-            NO_OBJECT_AT_0,
-            NO_OBJECT_AT_0,
-            NOT_FOUND,
-        ],
-    )?;
-    for size in [0, 1] {
-        let ran = run(rt.alloc(), &input, size, &[], &[])?;
-        assert_eq!(rt; ran.status, 0);
-        assert!(rt; ran.written.as_slice() == wanted.as_slice());
-        assert!(rt; ran.noted.is_empty());
-    }
-    Ok(())
+    check_replies(&rt, rt.alloc(), BROKEN)
 }
+
+const LISTED_TWICE: &[Exchange] = &[
+    (PUT_LISTED_TWICE, NEEDS_BYTE),
+    (GET_REF, NOT_FINALISED),
+    (FINALISE_LISTED_TWICE, NEEDS_BYTE),
+    (UPLOAD_BYTE, STORED_BYTE),
+    (GET_REF, NOT_FINALISED),
+    (FINALISE_LISTED_TWICE, NEEDS_NOTHING),
+    (FINALISE_LISTED_TWICE, NEEDS_NOTHING),
+    (GET_REF, SERVED_LISTED_TWICE),
+    (FINALISE_NOTHING, NOT_PENDING),
+    (FINALISE_LISTED_TWICE_UNDER_OTHER, NOT_FOUND),
+];
 
 #[test]
 fn a_missing_attachment_is_listed_once_and_finalised_once_it_is_there(
     rt: HostRuntime,
 ) -> Result<(), Fail> {
-    let input = joined(
-        rt.alloc(),
-        &[
-            PUT_LISTED_TWICE,
-            GET_REF,
-            FINALISE_LISTED_TWICE,
-            UPLOAD_BYTE,
-            GET_REF,
-            FINALISE_LISTED_TWICE,
-            FINALISE_LISTED_TWICE,
-            GET_REF,
-            FINALISE_NOTHING,
-            FINALISE_LISTED_TWICE_UNDER_OTHER,
-        ],
-    )?;
-    let wanted = joined(
-        rt.alloc(),
-        &[
-            NEEDS_BYTE,
-            NOT_FINALISED,
-            NEEDS_BYTE,
-            STORED_BYTE,
-            NOT_FINALISED,
-            NEEDS_NOTHING,
-            NEEDS_NOTHING,
-            SERVED_LISTED_TWICE,
-            NOT_PENDING,
-            NOT_FOUND,
-        ],
-    )?;
-    for size in [0, 1] {
-        let ran = run(rt.alloc(), &input, size, &[], &[])?;
-        assert_eq!(rt; ran.status, 0);
-        assert!(rt; ran.written.as_slice() == wanted.as_slice());
-        assert!(rt; ran.noted.is_empty());
-    }
-    Ok(())
+    check_replies(&rt, rt.alloc(), LISTED_TWICE)
 }
+
+const NESTED: &[Exchange] = &[
+    (PUT_OUTER, NEEDS_INNER),
+    (UPLOAD_INNER, STORED_INNER),
+    (FINALISE_OUTER, NEEDS_BYTE),
+    (UPLOAD_BYTE, STORED_BYTE),
+    (FINALISE_OUTER, NEEDS_NOTHING),
+    (GET_REF, SERVED_OUTER),
+];
 
 #[test]
 fn what_a_nested_object_needs_is_listed_once_that_is_there(rt: HostRuntime) -> Result<(), Fail> {
-    let input = joined(
-        rt.alloc(),
-        &[
-            PUT_OUTER,
-            UPLOAD_INNER,
-            FINALISE_OUTER,
-            UPLOAD_BYTE,
-            FINALISE_OUTER,
-            GET_REF,
-        ],
-    )?;
-    let wanted = joined(
-        rt.alloc(),
-        &[
-            NEEDS_INNER,
-            STORED_INNER,
-            NEEDS_BYTE,
-            STORED_BYTE,
-            NEEDS_NOTHING,
-            SERVED_OUTER,
-        ],
-    )?;
-    for size in [0, 1] {
-        let ran = run(rt.alloc(), &input, size, &[], &[])?;
-        assert_eq!(rt; ran.status, 0);
-        assert!(rt; ran.written.as_slice() == wanted.as_slice());
-        assert!(rt; ran.noted.is_empty());
-    }
-    Ok(())
+    check_replies(&rt, rt.alloc(), NESTED)
 }
+
+const LINKED_BYTE: &[Exchange] = &[
+    (PUT_LINKED_BYTE, NEEDS_BYTE),
+    (UPLOAD_BYTE, STORED_BYTE),
+    (FINALISE_LINKED_BYTE, NEEDS_NOTHING),
+];
 
 #[test]
 fn an_attachment_that_is_no_object_needs_nothing(rt: HostRuntime) -> Result<(), Fail> {
-    let input = joined(
-        rt.alloc(),
-        &[PUT_LINKED_BYTE, UPLOAD_BYTE, FINALISE_LINKED_BYTE],
-    )?;
-    let wanted = joined(rt.alloc(), &[NEEDS_BYTE, STORED_BYTE, NEEDS_NOTHING])?;
-    for size in [0, 1] {
-        let ran = run(rt.alloc(), &input, size, &[], &[])?;
-        assert_eq!(rt; ran.status, 0);
-        assert!(rt; ran.written.as_slice() == wanted.as_slice());
-        assert!(rt; ran.noted.is_empty());
-    }
-    Ok(())
+    check_replies(&rt, rt.alloc(), LINKED_BYTE)
 }
+
+const REPLACED: &[Exchange] = &[
+    (PUT_EMPTY_OBJECT, NEEDS_NOTHING),
+    (PUT_LISTED_TWICE, NEEDS_BYTE),
+    (GET_REF, SERVED_EMPTY_OBJECT),
+    (UPLOAD_BYTE, STORED_BYTE),
+    (GET_REF, SERVED_EMPTY_OBJECT),
+    (FINALISE_LISTED_TWICE, NEEDS_NOTHING),
+    (GET_REF, SERVED_LISTED_TWICE),
+];
 
 #[test]
 fn the_old_object_is_served_until_the_new_one_is_whole(rt: HostRuntime) -> Result<(), Fail> {
-    let input = joined(
-        rt.alloc(),
-        &[
-            PUT_EMPTY_OBJECT,
-            PUT_LISTED_TWICE,
-            GET_REF,
-            UPLOAD_BYTE,
-            GET_REF,
-            FINALISE_LISTED_TWICE,
-            GET_REF,
-        ],
-    )?;
-    let wanted = joined(
-        rt.alloc(),
-        &[
-            NEEDS_NOTHING,
-            NEEDS_BYTE,
-            SERVED_EMPTY_OBJECT,
-            STORED_BYTE,
-            SERVED_EMPTY_OBJECT,
-            NEEDS_NOTHING,
-            SERVED_LISTED_TWICE,
-        ],
-    )?;
-    for size in [0, 1] {
-        let ran = run(rt.alloc(), &input, size, &[], &[])?;
-        assert_eq!(rt; ran.status, 0);
-        assert!(rt; ran.written.as_slice() == wanted.as_slice());
-        assert!(rt; ran.noted.is_empty());
-    }
-    Ok(())
+    check_replies(&rt, rt.alloc(), REPLACED)
 }
+
+const ELSEWHERE: &[Exchange] = &[
+    (PUT_EMPTY_OBJECT_ELSEWHERE, UNKNOWN_NAMESPACE),
+    (GET_REF_ELSEWHERE, UNKNOWN_NAMESPACE),
+    (FINALISE_NOTHING_ELSEWHERE, UNKNOWN_NAMESPACE),
+];
 
 #[test]
 fn a_reference_in_an_unknown_namespace(rt: HostRuntime) -> Result<(), Fail> {
-    let input = joined(
-        rt.alloc(),
-        &[
-            PUT_EMPTY_OBJECT_ELSEWHERE,
-            GET_REF_ELSEWHERE,
-            FINALISE_NOTHING_ELSEWHERE,
-        ],
-    )?;
-    let wanted = joined(
-        rt.alloc(),
-        &[UNKNOWN_NAMESPACE, UNKNOWN_NAMESPACE, UNKNOWN_NAMESPACE],
-    )?;
-    for size in [0, 1] {
-        let ran = run(rt.alloc(), &input, size, &[], &[])?;
-        assert_eq!(rt; ran.status, 0);
-        assert!(rt; ran.written.as_slice() == wanted.as_slice());
-        assert!(rt; ran.noted.is_empty());
-    }
-    Ok(())
+    check_replies(&rt, rt.alloc(), ELSEWHERE)
 }

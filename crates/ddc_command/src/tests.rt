@@ -1,8 +1,9 @@
 use crate::{Places, places, run_local};
 use ddc_disk::{Devices, Disk, MemDisk};
 use ddc_link::{FixedClock, MemSink, MemSource};
-use ddc_names::{ByteList, NoMemory, Rows};
+use ddc_names::{NoMemory, Rows};
 use std::alloc::{AllocError, Global};
+use std::process::Abort;
 use std::test::Fail;
 
 // A blob of no byte is stored, and fetched. The hash is b3sum's.
@@ -67,25 +68,20 @@ const DISK_FAILED: &[u8] = b"ddc: disk failed\n";
 
 const NOT_MADE: &[u8] = b"ddc: cannot open store: not made\n";
 
+// A request, and the reply to it.
+pub(crate) type Exchange = (&'static [u8], &'static [u8]);
+
 // What one run answered, wrote and noted, and its devices.
 #[derive(Drop)]
-pub(crate) struct Ran {
-    pub(crate) status: u8,
-    pub(crate) written: Vec<u8>,
-    pub(crate) noted: Vec<u8>,
+struct Ran {
+    status: u8,
+    sink: MemSink,
+    notes: MemSink,
     devices: Devices<MemDisk>,
 }
 
 fn rows_of<T: Copy + Drop>(alloc: Global, items: &[T]) -> Result<Rows<T>, NoMemory> {
     Ok(Rows::of_vec(Vec::from_slice(alloc, items)?))
-}
-
-pub(crate) fn joined(alloc: Global, texts: &[&[u8]]) -> Result<Vec<u8>, AllocError> {
-    let mut all = Vec::new(alloc);
-    for text in texts {
-        all.extend_from_slice(text)?;
-    }
-    Ok(all)
 }
 
 fn words_of(alloc: Global, words: &[&str]) -> Result<Vec<String>, AllocError> {
@@ -96,69 +92,105 @@ fn words_of(alloc: Global, words: &[&str]) -> Result<Vec<String>, AllocError> {
     Ok(all)
 }
 
-// A disk whose call with this number fails, where there is one.
-fn disk(alloc: Global, failing: Option<u64>) -> Result<MemDisk, NoMemory> {
-    let mut calls = Vec::new(alloc);
-    if let Some(call) = failing {
-        calls.push(call)?;
+fn places_of(alloc: Global, words: &[&str]) -> Result<Option<Places>, AllocError> {
+    Ok(places(&words_of(alloc, words)?))
+}
+
+fn requests_of(alloc: Global, exchanges: &[Exchange]) -> Result<Vec<u8>, AllocError> {
+    let mut all = Vec::new(alloc);
+    for (request, _) in exchanges {
+        all.extend_from_slice(request)?;
     }
-    Ok(MemDisk::new(alloc, Rows::of_vec(calls)))
+    Ok(all)
+}
+
+fn replies_of(alloc: Global, exchanges: &[Exchange]) -> Result<Vec<u8>, AllocError> {
+    let mut all = Vec::new(alloc);
+    for (_, reply) in exchanges {
+        all.extend_from_slice(reply)?;
+    }
+    Ok(all)
+}
+
+// Devices that hold nothing and don't fail.
+fn empty(alloc: Global) -> Devices<MemDisk> {
+    Devices {
+        first: MemDisk::new(alloc, Rows::new(alloc)),
+        second: MemDisk::new(alloc, Rows::new(alloc)),
+        blobs: MemDisk::new(alloc, Rows::new(alloc)),
+    }
 }
 
 // Devices that hold nothing, where one of them fails at a call: the files have the numbers 0 to 2.
 fn failing(alloc: Global, file: u64, call: u64) -> Result<Devices<MemDisk>, NoMemory> {
-    Ok(Devices {
-        first: disk(alloc, if file == 0 { Some(call) } else { None })?,
-        second: disk(alloc, if file == 1 { Some(call) } else { None })?,
-        blobs: disk(alloc, if file == 2 { Some(call) } else { None })?,
-    })
+    let disk = MemDisk::new(alloc, rows_of(alloc, &[call])?);
+    let mut devices = empty(alloc);
+    match file {
+        0 => devices.first = disk,
+        1 => devices.second = disk,
+        _ => devices.blobs = disk,
+    }
+    Ok(devices)
 }
 
-// Devices that hold nothing and don't fail.
-fn empty(alloc: Global) -> Result<Devices<MemDisk>, NoMemory> {
-    failing(alloc, 3, 0)
+// The devices whose first file holds that of the namespace `game`, and these bytes from a place on.
+fn holding(alloc: Global, at: u64, bytes: &[u8]) -> Result<Devices<MemDisk>, NoMemory> {
+    let mut devices = empty(alloc);
+    if devices.first.write_at(0, &GAME).is_err() || devices.first.write_at(at, bytes).is_err() {
+        return Err(NoMemory);
+    }
+    Ok(devices)
+}
+
+// So many pieces of this size, or none where the size is 0.
+fn sizes_of(alloc: Global, count: usize, size: u32) -> Result<Rows<u32>, NoMemory> {
+    let sizes = if size > 0 {
+        vec![in alloc; size; count]?
+    } else {
+        Vec::new(alloc)
+    };
+    Ok(Rows::of_vec(sizes))
 }
 
 // A source of bytes in pieces of this size, or in one where the size is 0.
 fn source_of(alloc: Global, input: &[u8], size: u32, reads: &[u64]) -> Result<MemSource, NoMemory> {
-    let bytes: ByteList = rows_of(alloc, input)?;
-    let mut sizes = Vec::new(alloc);
-    if size > 0 {
-        for _ in 0..input.len() + 1 {
-            sizes.push(size)?;
-        }
-    }
-    Ok(MemSource::new(bytes, Rows::of_vec(sizes), rows_of(alloc, reads)?))
+    let bytes = rows_of(alloc, input)?;
+    let sizes = sizes_of(alloc, input.len() + 1, size)?;
+    Ok(MemSource::new(bytes, sizes, rows_of(alloc, reads)?))
 }
 
-// Runs a command with this source, where the puts of these numbers fail.
+// A sink whose puts of these numbers fail.
+fn sink_of(alloc: Global, writes: &[u64]) -> Result<MemSink, NoMemory> {
+    Ok(MemSink::new(alloc, rows_of(alloc, writes)?))
+}
+
+// Runs a command with this source and this sink.
 fn run_from(
     alloc: Global,
-    words: &[&str],
+    words: &[String],
     devices: Devices<MemDisk>,
     source: MemSource,
-    writes: &[u64],
-) -> Result<Ran, NoMemory> {
-    let words = words_of(alloc, words)?;
+    sink: MemSink,
+) -> Ran {
     let mut source = source;
-    let mut sink = MemSink::new(alloc, rows_of(alloc, writes)?);
+    let mut sink = sink;
     let mut notes = MemSink::new(alloc, Rows::new(alloc));
     let clock = FixedClock { hour: 100 };
     let (status, devices) = run_local(
         alloc,
-        &words,
+        words,
         devices,
         &mut source,
         &mut sink,
         &mut notes,
         &clock,
     );
-    Ok(Ran {
+    Ran {
         status,
-        written: Vec::from_slice(alloc, sink.written())?,
-        noted: Vec::from_slice(alloc, notes.written())?,
+        sink,
+        notes,
         devices,
-    })
+    }
 }
 
 fn run_words(
@@ -167,47 +199,59 @@ fn run_words(
     devices: Devices<MemDisk>,
     input: &[u8],
 ) -> Result<Ran, NoMemory> {
-    run_from(alloc, words, devices, source_of(alloc, input, 0, &[])?, &[])
+    let words = words_of(alloc, words)?;
+    let source = source_of(alloc, input, 0, &[])?;
+    let sink = MemSink::new(alloc, Rows::new(alloc));
+    Ok(run_from(alloc, &words, devices, source, sink))
+}
+
+// Devices that hold the namespace `game`.
+fn with_game(alloc: Global) -> Result<Devices<MemDisk>, NoMemory> {
+    let Ran { devices, .. } = run_words(alloc, INIT, empty(alloc), b"")?;
+    Ok(devices)
 }
 
 // Replays a stream on a store with the namespace `game`.
-pub(crate) fn run(
+fn run(
     alloc: Global,
     input: &[u8],
     size: u32,
     reads: &[u64],
     writes: &[u64],
 ) -> Result<Ran, NoMemory> {
-    let Ran { devices, .. } = run_words(alloc, INIT, empty(alloc)?, b"")?;
-    run_from(
-        alloc,
-        REPLAY,
-        devices,
-        source_of(alloc, input, size, reads)?,
-        writes,
-    )
+    let words = words_of(alloc, REPLAY)?;
+    let source = source_of(alloc, input, size, reads)?;
+    let sink = sink_of(alloc, writes)?;
+    let devices = with_game(alloc)?;
+    Ok(run_from(alloc, &words, devices, source, sink))
 }
 
-// The devices whose first file holds these bytes, and these from a place on.
-fn holding(
+fn check_ran(rt: &impl Abort, ran: &Ran, status: u8, written: &[u8], noted: &[u8]) {
+    assert_eq!(rt; ran.status, status);
+    assert!(rt; ran.sink.written() == written);
+    assert!(rt; ran.notes.written() == noted);
+}
+
+// Replays a stream of requests, in pieces of this size, and checks that each gets the reply beside it.
+pub(crate) fn check_stream(
+    rt: &impl Abort,
     alloc: Global,
-    file: &[u8],
-    at: u64,
-    bytes: &[u8],
-) -> Result<Devices<MemDisk>, NoMemory> {
-    let mut devices = empty(alloc)?;
-    if devices.first.write_at(0, file).is_err() || devices.first.write_at(at, bytes).is_err() {
-        return Err(NoMemory);
-    }
-    Ok(devices)
+    exchanges: &[Exchange],
+    size: u32,
+    status: u8,
+    noted: &[u8],
+) -> Result<(), NoMemory> {
+    let input = requests_of(alloc, exchanges)?;
+    let wanted = replies_of(alloc, exchanges)?;
+    let ran = run(alloc, &input, size, &[], &[])?;
+    check_ran(rt, &ran, status, &wanted, noted);
+    Ok(())
 }
 
 #[test]
 fn init_makes_a_store_and_says_so(rt: HostRuntime) -> Result<(), Fail> {
-    let mut ran = run_words(rt.alloc(), INIT, empty(rt.alloc())?, b"")?;
-    assert_eq!(rt; ran.status, 0);
-    assert!(rt; ran.written.as_slice() == b"namespace game ttl 24 pin 4\n".as_slice());
-    assert!(rt; ran.noted.is_empty());
+    let mut ran = run_words(rt.alloc(), INIT, empty(rt.alloc()), b"")?;
+    check_ran(&rt, &ran, 0, b"namespace game ttl 24 pin 4\n", b"");
     assert_eq!(rt; ran.devices.first.len(), Ok(41));
     let mut file = [9; 41];
     assert_eq!(rt; ran.devices.first.read(0, &mut file), Ok(()));
@@ -230,12 +274,10 @@ const STEPS: [(&[&str], &[u8], &[u8]); 5] = [
 
 #[test]
 fn each_command_goes_on_from_what_the_last_one_left(rt: HostRuntime) -> Result<(), Fail> {
-    let mut devices = empty(rt.alloc())?;
+    let mut devices = empty(rt.alloc());
     for (words, input, wanted) in STEPS {
         let ran = run_words(rt.alloc(), words, devices, input)?;
-        assert_eq!(rt; ran.status, 0);
-        assert!(rt; ran.written.as_slice() == wanted);
-        assert!(rt; ran.noted.is_empty());
+        check_ran(&rt, &ran, 0, wanted, b"");
         let Ran { devices: left, .. } = ran;
         devices = left;
     }
@@ -244,56 +286,46 @@ fn each_command_goes_on_from_what_the_last_one_left(rt: HostRuntime) -> Result<(
 
 #[test]
 fn a_store_that_is_not_made_is_not_served(rt: HostRuntime) -> Result<(), Fail> {
-    let ran = run_words(rt.alloc(), REPLAY, empty(rt.alloc())?, PUT_EMPTY)?;
-    assert_eq!(rt; ran.status, 2);
-    assert!(rt; ran.written.is_empty());
-    assert!(rt; ran.noted.as_slice() == NOT_MADE);
+    let ran = run_words(rt.alloc(), REPLAY, empty(rt.alloc()), PUT_EMPTY)?;
+    check_ran(&rt, &ran, 2, b"", NOT_MADE);
     Ok(())
 }
 
+const FETCHED: &[Exchange] = &[(PUT_EMPTY, STORED_EMPTY), (GET_EMPTY, FOUND_EMPTY)];
+
 #[test]
 fn stored_blobs_are_fetched_whatever_the_pieces(rt: HostRuntime) -> Result<(), Fail> {
-    let input = joined(rt.alloc(), &[PUT_EMPTY, GET_EMPTY])?;
-    let wanted = joined(rt.alloc(), &[STORED_EMPTY, FOUND_EMPTY])?;
     for size in [0, 1, 7] {
-        let ran = run(rt.alloc(), &input, size, &[], &[])?;
-        assert_eq!(rt; ran.status, 0);
-        assert!(rt; ran.written.as_slice() == wanted.as_slice());
-        assert!(rt; ran.noted.is_empty());
+        check_stream(&rt, rt.alloc(), FETCHED, size, 0, b"")?;
     }
     Ok(())
 }
 
+const REFUSED: &[Exchange] = &[
+    (PUT_OTHER, REFUSED_OTHER),
+    (GET_EMPTY, NOT_FOUND),
+    (GET_ELSEWHERE, UNKNOWN),
+    (PUT_LETTER, STORED_LETTER),
+    (GET_LETTER, FOUND_LETTER),
+];
+
 #[test]
 fn refusals_let_the_stream_go_on(rt: HostRuntime) -> Result<(), Fail> {
-    let input = joined(
-        rt.alloc(),
-        &[PUT_OTHER, GET_EMPTY, GET_ELSEWHERE, PUT_LETTER, GET_LETTER],
-    )?;
-    let wanted = joined(
-        rt.alloc(),
-        &[
-            REFUSED_OTHER,
-            NOT_FOUND,
-            UNKNOWN,
-            STORED_LETTER,
-            FOUND_LETTER,
-        ],
-    )?;
-    let ran = run(rt.alloc(), &input, 0, &[], &[])?;
-    assert_eq!(rt; ran.status, 0);
-    assert!(rt; ran.written.as_slice() == wanted.as_slice());
+    check_stream(&rt, rt.alloc(), REFUSED, 0, 0, b"")?;
     Ok(())
 }
 
+// What stands behind the unread request gets no reply.
+const CLOSED: &[Exchange] = &[
+    (PUT_EMPTY, STORED_EMPTY),
+    (DELETE, UNREAD),
+    (GET_EMPTY, b""),
+];
+
 #[test]
 fn an_unread_request_closes(rt: HostRuntime) -> Result<(), Fail> {
-    let input = joined(rt.alloc(), &[PUT_EMPTY, DELETE, GET_EMPTY])?;
-    let wanted = joined(rt.alloc(), &[STORED_EMPTY, UNREAD])?;
-    let ran = run(rt.alloc(), &input, 0, &[], &[])?;
-    assert_eq!(rt; ran.status, 3);
-    assert!(rt; ran.written.as_slice() == wanted.as_slice());
-    assert!(rt; ran.noted.as_slice() == b"ddc: bad input at 95: unread\n".as_slice());
+    let noted = b"ddc: bad input at 95: unread\n";
+    check_stream(&rt, rt.alloc(), CLOSED, 0, 3, noted)?;
     Ok(())
 }
 
@@ -308,22 +340,38 @@ fn wanted_at(end: usize) -> (usize, usize) {
     }
 }
 
+// What is noted of an input that ends here, where the request that it ends in begins at this place.
+fn cut_note(alloc: Global, end: usize, place: usize) -> Result<String, AllocError> {
+    if place == end {
+        Ok(String::new(alloc))
+    } else {
+        format!(in alloc; "ddc: bad input at {place}: cut\n")
+    }
+}
+
+// Replays the first bytes of a stream that gets these replies.
+fn check_cut(rt: &impl Abort, alloc: Global, front: &[u8], all: &[u8]) -> Result<(), NoMemory> {
+    let end = front.len();
+    let (written, place) = wanted_at(end);
+    let noted = cut_note(alloc, end, place)?;
+    let ran = run(alloc, front, 0, &[], &[])?;
+    let status = if place == end { 0 } else { 3 };
+    check_ran(
+        rt,
+        &ran,
+        status,
+        &all[..written.min(all.len())],
+        noted.as_bytes(),
+    );
+    Ok(())
+}
+
 #[test]
 fn an_input_cut_at_each_byte(rt: HostRuntime) -> Result<(), Fail> {
-    let input = joined(rt.alloc(), &[PUT_EMPTY, GET_EMPTY])?;
-    let all = joined(rt.alloc(), &[STORED_EMPTY, FOUND_EMPTY])?;
+    let input = requests_of(rt.alloc(), FETCHED)?;
+    let all = replies_of(rt.alloc(), FETCHED)?;
     for end in 0..input.len() + 1 {
-        let ran = run(rt.alloc(), &input[..end], 0, &[], &[])?;
-        let (written, place) = wanted_at(end);
-        assert_eq!(rt; ran.status, if place == end { 0 } else { 3 });
-        assert!(rt; ran.written.as_slice() == &all[..written.min(all.len())]);
-        let note = format!(in rt.alloc(); "ddc: bad input at {place}: cut\n")?;
-        let told = if place == end {
-            b"".as_slice()
-        } else {
-            note.as_bytes()
-        };
-        assert!(rt; ran.noted.as_slice() == told);
+        check_cut(&rt, rt.alloc(), &input[..end], &all)?;
     }
     Ok(())
 }
@@ -358,13 +406,13 @@ const WORDS: [(&[&str], u8, &[u8]); 14] = [
 fn words_of_no_form_write_nothing(rt: HostRuntime) -> Result<(), Fail> {
     let alloc = rt.alloc();
     for (words, status, written) in WORDS {
-        let mut ran = run_words(alloc, words, empty(alloc)?, PUT_EMPTY)?;
-        let form = places(&words_of(alloc, words)?);
-        assert_eq!(rt; ran.status, status);
-        assert!(rt; ran.written.as_slice() == written);
-        assert!(rt; (ran.noted.as_slice() == USAGE) == (status == 1));
-        assert!(rt; (ran.devices.first.len() == Ok(0)) == (status == 1));
+        let form = places_of(alloc, words)?;
         assert!(rt; form.is_none() == (status == 1));
+        let mut ran = run_words(alloc, words, empty(alloc), PUT_EMPTY)?;
+        assert_eq!(rt; ran.status, status);
+        assert!(rt; ran.sink.written() == written);
+        assert!(rt; (ran.notes.written() == USAGE) == (status == 1));
+        assert!(rt; (ran.devices.first.len() == Ok(0)) == (status == 1));
     }
     Ok(())
 }
@@ -377,7 +425,7 @@ fn the_folder_is_the_second_word(rt: HostRuntime) -> Result<(), Fail> {
         workers: 0,
     });
     for words in [INIT, REPLAY] {
-        assert!(rt; places(&words_of(rt.alloc(), words)?) == wanted);
+        assert!(rt; places_of(rt.alloc(), words)? == wanted);
     }
     Ok(())
 }
@@ -398,21 +446,31 @@ const FAULTS: [(u64, [u8; 4], &[u8]); 4] = [
     ),
 ];
 
+// Runs a command on a store whose first file has these bytes in the place of others: it isn't opened.
+fn check_unopened(
+    rt: &impl Abort,
+    alloc: Global,
+    words: &[&str],
+    at: u64,
+    bytes: &[u8],
+    noted: &[u8],
+) -> Result<(), NoMemory> {
+    let devices = holding(alloc, at, bytes)?;
+    let ran = run_words(alloc, words, devices, PUT_EMPTY)?;
+    check_ran(rt, &ran, 2, b"", noted);
+    Ok(())
+}
+
 #[test]
 fn a_store_that_does_not_open_is_noted(rt: HostRuntime) -> Result<(), Fail> {
-    for (at, bytes, note) in FAULTS {
-        let devices = holding(rt.alloc(), &GAME, at, &bytes)?;
-        let ran = run_words(rt.alloc(), REPLAY, devices, PUT_EMPTY)?;
-        assert_eq!(rt; ran.status, 2);
-        assert!(rt; ran.written.is_empty());
-        assert!(rt; ran.noted.as_slice() == note);
+    for (at, bytes, noted) in FAULTS {
+        check_unopened(&rt, rt.alloc(), REPLAY, at, &bytes, noted)?;
     }
     Ok(())
 }
 
-// Behind the namespace stands the finalised reference `game/b/00..` to an object that links to a blob which isn't there.
-#[test]
-fn an_unsound_reference_is_named(rt: HostRuntime) -> Result<(), Fail> {
+// The finalised reference `game/b/00..` to an object that links to a blob which isn't there.
+fn unsound_entry() -> [u8; 121] {
     let mut body = [0; 121];
     for (at, byte) in [
         (0, 1),
@@ -433,91 +491,149 @@ fn an_unsound_reference_is_named(rt: HostRuntime) -> Result<(), Fail> {
     ] {
         body[at % 121] = byte;
     }
+    body
+}
+
+// The entry stands behind the namespace.
+#[test]
+fn an_unsound_reference_is_named(rt: HostRuntime) -> Result<(), Fail> {
+    let entry = unsound_entry();
+    let noted =
+        b"ddc: cannot open store: unsound game/b/0000000000000000000000000000000000000000\n";
     for words in [INIT, REPLAY] {
-        let devices = holding(rt.alloc(), &GAME, 40, &body)?;
-        let ran = run_words(rt.alloc(), words, devices, PUT_EMPTY)?;
-        assert_eq!(rt; ran.status, 2);
-        assert!(rt; ran.written.is_empty());
-        let note =
-            b"ddc: cannot open store: unsound game/b/0000000000000000000000000000000000000000\n";
-        assert!(rt; ran.noted.as_slice() == note.as_slice());
+        check_unopened(&rt, rt.alloc(), words, 40, &entry, noted)?;
     }
     Ok(())
 }
 
 // What a store answers to the fetching of a letter: there is no store, or none of its items, or it is there.
 fn is_front(ran: &Ran) -> bool {
-    let written = ran.written.as_slice();
+    let written = ran.sink.written();
     match ran.status {
         0 => written == UNKNOWN || written == NOT_FOUND || written == FOUND_LETTER,
-        2 => written.is_empty() && ran.noted.as_slice() == NOT_MADE,
+        2 => written.is_empty() && ran.notes.written() == NOT_MADE,
         _ => false,
     }
 }
 
 fn has_failed(ran: &Ran) -> bool {
-    ran.status == 5 && ran.noted.as_slice() == DISK_FAILED
+    ran.status == 5 && ran.notes.written() == DISK_FAILED
+}
+
+// How a command ended: whether as the disk failed, and with the letter that it fetches or less.
+#[derive(Clone, Copy)]
+struct Outcome {
+    status: u8,
+    failed: bool,
+    front: bool,
+    whole: bool,
+}
+
+fn outcome_of(ran: &Ran) -> Outcome {
+    Outcome {
+        status: ran.status,
+        failed: has_failed(ran),
+        front: is_front(ran),
+        whole: ran.sink.written() == FOUND_LETTER,
+    }
+}
+
+// Runs a command, and gives the devices back.
+fn run_step(
+    alloc: Global,
+    words: &[&str],
+    devices: Devices<MemDisk>,
+    input: &[u8],
+) -> Result<(Outcome, Devices<MemDisk>), NoMemory> {
+    let ran = run_words(alloc, words, devices, input)?;
+    let outcome = outcome_of(&ran);
+    let Ran { devices, .. } = ran;
+    Ok((outcome, devices))
+}
+
+// A namespace is made, a letter is stored, and it is fetched, on devices of which one fails at a call.
+fn outcomes(alloc: Global, file: u64, call: u64) -> Result<[Outcome; 3], NoMemory> {
+    let devices = failing(alloc, file, call)?;
+    let (made, devices) = run_step(alloc, INIT, devices, b"")?;
+    let (stored, devices) = run_step(alloc, REPLAY, devices, PUT_LETTER)?;
+    let (found, _) = run_step(alloc, REPLAY, devices, GET_LETTER)?;
+    Ok([made, stored, found])
 }
 
 // The files and how many of their calls are made to fail.
 const CALLS: [(u64, u64); 3] = [(0, 32), (1, 3), (2, 3)];
 
-// A namespace is made, a letter is stored, and it is fetched, on devices of which one fails at a call. The letter is there
-// at the end, or less of what was asked for.
+// The letter is there at the end, or less of what was asked for.
 #[test]
 fn each_device_call_fails_in_turn(rt: HostRuntime) -> Result<(), Fail> {
-    let alloc = rt.alloc();
     for (file, calls) in CALLS {
         for call in 0..calls {
-            let made = run_words(alloc, INIT, failing(alloc, file, call)?, b"")?;
-            let first = has_failed(&made);
-            assert!(rt; first || made.status == 0, "{file} {call}");
-            let Ran { devices, .. } = made;
-            let stored = run_words(alloc, REPLAY, devices, PUT_LETTER)?;
-            let second = has_failed(&stored);
-            assert!(rt; first != second || stored.status == 0, "{file} {call}");
-            let Ran { devices, .. } = stored;
-            let found = run_words(alloc, REPLAY, devices, GET_LETTER)?;
-            let third = has_failed(&found);
-            assert!(rt; third || is_front(&found), "{file} {call}");
-            let whole = found.written.as_slice() == FOUND_LETTER;
-            assert!(rt; first || second || third || whole, "{file} {call}");
+            let [made, stored, found] = outcomes(rt.alloc(), file, call)?;
+            assert!(rt; made.failed || made.status == 0, "{file} {call}");
+            assert!(rt;
+                made.failed != stored.failed || stored.status == 0,
+                "{file} {call}"
+            );
+            assert!(rt; found.failed || found.front, "{file} {call}");
+            let failed = made.failed || stored.failed || found.failed;
+            assert!(rt; failed || found.whole, "{file} {call}");
         }
     }
     Ok(())
 }
 
+const STREAM: &[Exchange] = &[(PUT_LETTER, STORED_LETTER), (GET_LETTER, FOUND_LETTER)];
+
+fn check_failed_read(
+    rt: &impl Abort,
+    alloc: Global,
+    input: &[u8],
+    all: &[u8],
+    call: u64,
+) -> Result<(), NoMemory> {
+    let ran = run(alloc, input, 60, &[call], &[])?;
+    assert_eq!(rt; ran.status, 4);
+    assert!(rt; all.starts_with(ran.sink.written()));
+    assert!(rt; ran.notes.written() == b"ddc: read failed\n".as_slice());
+    Ok(())
+}
+
+fn check_failed_write(
+    rt: &impl Abort,
+    alloc: Global,
+    input: &[u8],
+    all: &[u8],
+    call: u64,
+) -> Result<(), NoMemory> {
+    let ran = run(alloc, input, 0, &[], &[call])?;
+    let written = ran.sink.written();
+    assert_eq!(rt; ran.status, 4);
+    assert!(rt; all.starts_with(written) && written.len() < all.len());
+    assert!(rt; ran.notes.written() == b"ddc: write failed\n".as_slice());
+    Ok(())
+}
+
 #[test]
 fn each_read_and_each_write_fails_in_turn(rt: HostRuntime) -> Result<(), Fail> {
-    let input = joined(rt.alloc(), &[PUT_LETTER, GET_LETTER])?;
-    let all = joined(rt.alloc(), &[STORED_LETTER, FOUND_LETTER])?;
+    let input = requests_of(rt.alloc(), STREAM)?;
+    let all = replies_of(rt.alloc(), STREAM)?;
     for call in 0..4 {
-        let ran = run(rt.alloc(), &input, 60, &[call], &[])?;
-        assert_eq!(rt; ran.status, 4);
-        assert!(rt; all.starts_with(&ran.written));
-        assert!(rt; ran.noted.as_slice() == b"ddc: read failed\n".as_slice());
-        let ran = run(rt.alloc(), &input, 0, &[], &[call])?;
-        assert_eq!(rt; ran.status, 4);
-        assert!(rt; all.starts_with(&ran.written) && ran.written.len() < all.len());
-        assert!(rt; ran.noted.as_slice() == b"ddc: write failed\n".as_slice());
+        check_failed_read(&rt, rt.alloc(), &input, &all, call)?;
+        check_failed_write(&rt, rt.alloc(), &input, &all, call)?;
     }
     Ok(())
 }
 
 #[test]
 fn the_last_request_of_a_stream_closes(rt: HostRuntime) -> Result<(), Fail> {
-    let mut input = Vec::new(rt.alloc());
-    for _ in 0..10_001 {
-        input.extend_from_slice(GET_EMPTY)?;
-    }
+    let input = GET_EMPTY.repeat(rt.alloc(), 10_001)?;
     let ran = run(rt.alloc(), &input, 0, &[], &[])?;
+    let written = ran.sink.written();
     assert_eq!(rt; ran.status, 3);
-    assert_eq!(rt; ran.written.len(), 10_000 * NOT_FOUND.len() + 19);
+    assert_eq!(rt; written.len(), 10_000 * NOT_FOUND.len() + 19);
     let last =
         b"Content-Length: 21\r\nConnection: close\r\n\r\n{\"error\":\"not_found\"}".as_slice();
-    assert!(rt; ran.written.ends_with(last));
-    assert!(rt;
-        ran.noted.as_slice() == b"ddc: bad input at 760000: too_many_requests\n".as_slice()
-    );
+    assert!(rt; written.ends_with(last));
+    assert!(rt; ran.notes.written() == b"ddc: bad input at 760000: too_many_requests\n".as_slice());
     Ok(())
 }
