@@ -3,7 +3,7 @@
 ghost use Rattle.std.specs.Prelude.{◌≡◌, ◌<◌, ◌≤◌, length, IfOk, None};
 ghost use Rattle.std.specs.Io.{ReadsAtMost};
 ghost use Rattle.std.specs.Io.KnownBytes.{ReadConsumes, WriteAppends};
-ghost use Rattle.ddc_link.specs.Causes.{HasCause};
+ghost use Rattle.ddc_names.specs.Causes.{HasCause};
 
 use crate::{Sink, Source};
 use ddc_names::Failed;
