@@ -158,6 +158,7 @@ fn a_journal_on_a_file_gives_its_bodies_back(rt: HostRuntime) -> Result<(), Fail
                 .is_ok()
         );
     }
+    drop(disk);
     let mut again = FileDisk::at_path(rt, alloc, "ddc_journal_test/first")?;
     assert!(rt; bodies(alloc, &mut again) == Ok(3));
     fs::remove_dir_all(&rt, folder)?;

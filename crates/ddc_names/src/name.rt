@@ -47,6 +47,8 @@ impl Name {
         ensures text { IfOk result (λ name. name ≡ text.now) }
         ensures named { OnOk result (is_name text.now ≡ true) }
         ensures fault { IfErr result (λ fault. BreaksName text.now fault.at) }
+        ensures scanned { OnOk result (name_fault text.now ≡ None) }
+        ensures scan { IfErr result (λ fault. name_fault text.now ≡ Some fault.at) }
     {
         let text = text.as_bytes();
         if let Some(at) = find_fault(text) {
@@ -151,6 +153,8 @@ impl Namespace {
         ensures text { IfOk result (λ name. name ≡ text.now) }
         ensures named { OnOk result (is_name text.now ≡ true) }
         ensures fault { IfErr result (λ fault. BreaksName text.now fault.at) }
+        ensures scanned { OnOk result (name_fault text.now ≡ None) }
+        ensures scan { IfErr result (λ fault. name_fault text.now ≡ Some fault.at) }
     {
         match Name::parse(text) {
             Ok(name) => Ok(Namespace { name }),
@@ -195,6 +199,8 @@ impl Bucket {
         ensures text { IfOk result (λ name. name ≡ text.now) }
         ensures named { OnOk result (is_name text.now ≡ true) }
         ensures fault { IfErr result (λ fault. BreaksName text.now fault.at) }
+        ensures scanned { OnOk result (name_fault text.now ≡ None) }
+        ensures scan { IfErr result (λ fault. name_fault text.now ≡ Some fault.at) }
     {
         match Name::parse(text) {
             Ok(name) => Ok(Bucket { name }),

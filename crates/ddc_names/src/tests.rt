@@ -1,7 +1,12 @@
 //! Values from outside: texts that a reader can check by eye, and the BLAKE3 hash of no bytes.
 
-use crate::{BadName, Bucket, Failed, IoHash, Namespace, NoMemory, RefKey, RefName, RefSpot, Rows};
+use crate::{
+    BadName, Bucket, Failed, IoHash, Namespace, NoMemory, RefKey, RefName, RefSpot, Rows,
+    order_of_buckets, order_of_hashes, order_of_keys, order_of_namespaces, order_of_references,
+    order_of_spots,
+};
 use std::alloc::{AllocError, Global};
+use std::cmp::Ordering;
 use std::test::Fail;
 
 // The first 20 bytes of the BLAKE3 hash of no bytes.
@@ -109,6 +114,36 @@ fn references_are_ordered_by_namespace_bucket_and_key(rt: HostRuntime) -> Result
     }
     assert_eq!(rt; names.len(), 5);
     assert!(rt; names.windows(2).all(|pair| pair[0] < pair[1]));
+    Ok(())
+}
+
+#[test]
+fn orders_compare_the_first_field_first(rt: HostRuntime) -> Result<(), Fail> {
+    let (a, b) = (RefKey([1; 20]), RefKey([2; 20]));
+    let (near, far) = (Bucket::parse("a")?, Bucket::parse("b")?);
+    let (early, late) = (Namespace::parse("a")?, Namespace::parse("b")?);
+    let low = RefSpot {
+        bucket: near,
+        key: b,
+    };
+    let high = RefSpot {
+        bucket: far,
+        key: a,
+    };
+    let first = RefName {
+        space: early,
+        spot: high,
+    };
+    let second = RefName {
+        space: late,
+        spot: low,
+    };
+    assert!(rt; order_of_hashes(&IoHash(a.0), &IoHash(b.0)) == Ordering::Less);
+    assert!(rt; order_of_keys(&a, &b) == Ordering::Less);
+    assert!(rt; order_of_buckets(&near, &far) == Ordering::Less);
+    assert!(rt; order_of_namespaces(&early, &late) == Ordering::Less);
+    assert!(rt; order_of_spots(&low, &high) == Ordering::Less);
+    assert!(rt; order_of_references(&first, &second) == Ordering::Less);
     Ok(())
 }
 
