@@ -1,7 +1,7 @@
 //! A disk over a file of the system. What the file holds, and what a crash leaves of it, is known to
 //! no clause.
 
-ghost use Rattle.std.specs.Prelude.{◌≡◌, ◌≤◌, ◌+◌, ◌^◌, false, length, IsErr, None};
+ghost use Rattle.std.specs.Prelude.{◌≡◌, ◌≤◌, ◌+◌, ◌^◌, false, length, IfOk, IsErr, None};
 ghost use Rattle.ddc_names.specs.Causes.{HasCause};
 ghost use Rattle.ddc_disk.specs.Unknown.{unknown, unknown_rests, never_told, never_small};
 
@@ -12,16 +12,18 @@ use std::fs::{File, OpenOptions};
 use std::io;
 use std::os::unix::fs::FileExt;
 
-/// A file of the system. It counts each error of the system as a fault.
+/// A file of the system, which one process at a time has open: the first call fails where another one
+/// has it. Each error of the system counts as a fault. A disk can't be copied, so that its count never
+/// falls.
 #[derive(Drop)]
 pub struct FileDisk {
-    place: Place,
+    place: FilePlace,
     faults: u64,
     moment: u64,
 }
 
 #[derive(Drop)]
-struct Place {
+struct FilePlace {
     rt: HostRuntime,
     path: String,
     file: Option<File>,
@@ -33,9 +35,11 @@ impl FileDisk {
     /// # Errors
     ///
     /// `NoMemory` where there is none for the path.
-    pub fn at_path(rt: HostRuntime, alloc: Global, path: &str) -> Result<FileDisk, NoMemory> {
+    pub fn at_path(rt: HostRuntime, alloc: Global, path: &str) -> Result<FileDisk, NoMemory>
+        ensures { IfOk result (λ disk. disk.faults ≡ 0) }
+    {
         Ok(FileDisk {
-            place: Place {
+            place: FilePlace {
                 rt,
                 path: String::from_str(alloc, path)?,
                 file: None,
@@ -47,7 +51,7 @@ impl FileDisk {
 }
 
 // The file of a place, which is opened where it isn't yet.
-fn opened(place: &mut Place) -> io::Result<&File> {
+fn opened(place: &mut FilePlace) -> io::Result<&File> {
     if place.file.is_none() {
         place.file = Some(open_or_make(&place.rt, place.path.as_str())?);
     }
@@ -57,13 +61,15 @@ fn opened(place: &mut Place) -> io::Result<&File> {
     }
 }
 
-// The folder is synced, so that a file that was just made is still there after a crash.
+// The lock goes when the file is closed. The folder is synced, so that a file that was just made is
+// still there after a crash.
 fn open_or_make(rt: &HostRuntime, path: &str) -> io::Result<File> {
     let file = OpenOptions::new()
         .read(true)
         .write(true)
         .create(true)
         .open(rt, path)?;
+    file.try_lock()?;
     let folder = match path.rsplit_once('/') {
         Some(("", _)) => "/",
         Some((folder, _)) => folder,
@@ -73,7 +79,7 @@ fn open_or_make(rt: &HostRuntime, path: &str) -> io::Result<File> {
     Ok(file)
 }
 
-fn read_from(place: &mut Place, at: u64, into: &mut [u8]) -> io::Result<()> {
+fn read_from(place: &mut FilePlace, at: u64, into: &mut [u8]) -> io::Result<()> {
     let file = opened(place)?;
     into.fill(0);
     // The system has no place from 2^63 on.
@@ -86,7 +92,7 @@ fn read_from(place: &mut Place, at: u64, into: &mut [u8]) -> io::Result<()> {
     }
 }
 
-fn write_to(place: &mut Place, at: u64, bytes: &[u8]) -> io::Result<()>
+fn write_to(place: &mut FilePlace, at: u64, bytes: &[u8]) -> io::Result<()>
     ensures { 2 ^ 64 ≤ at + length bytes.now → IsErr result }
 {
     if at.checked_add(bytes.len() as u64).is_none() {
@@ -95,11 +101,11 @@ fn write_to(place: &mut Place, at: u64, bytes: &[u8]) -> io::Result<()>
     opened(place)?.write_all_at(bytes, at)
 }
 
-fn sync_of(place: &mut Place) -> io::Result<()> {
+fn sync_of(place: &mut FilePlace) -> io::Result<()> {
     opened(place)?.sync_data()
 }
 
-fn length_of(place: &mut Place) -> io::Result<u64> {
+fn length_of(place: &mut FilePlace) -> io::Result<u64> {
     Ok(opened(place)?.metadata()?.len())
 }
 

@@ -1,7 +1,7 @@
 //! What a disk in memory is made of.
 
 ghost use Rattle.std.specs.Prelude.{◌≡◌, ◌<◌, ◌^◌, IsTrue, length};
-ghost use Rattle.ddc_disk.specs.Memory.{history, reads_now, all_by, IsCounted};
+ghost use Rattle.ddc_disk.specs.Memory.{memory_history, reads_now, all_by, IsCounted};
 
 use crate::log::Log;
 
@@ -10,7 +10,7 @@ use crate::log::Log;
 pub struct MemDisk {
     pub(crate) log: Log,
     ghost in_order: { IsTrue (all_by log.moment log.calls) },
-    ghost as_read: { log.bytes.items ≡ reads_now (history log) },
+    ghost as_read: { log.bytes.items ≡ reads_now (memory_history log) },
     ghost counted: { IsCounted log },
     ghost small: { length log.bytes.items < 2 ^ 64 },
 }
