@@ -7,7 +7,7 @@ use Rattle.std.specs.FinMap.{FinMap, get}
 use Rattle.ref_store.specs.declared.slot.Slot.{Slot}
 use Rattle.ddc_names.specs.declared.hash.IoHash.{IoHash}
 use Rattle.ddc_names.specs.declared.reference.RefName.{RefName}
-use Rattle.ddc_disk.specs.Causes.{Rose}
+use Rattle.ddc_names.specs.Causes.{Rose}
 use Rattle.ddc_disk.specs.Disk.{Timeline, Meaning, EachImage, EachSince, Rests}
 use Rattle.ddc_disk.specs.Images.{Images, devices_line, devices_faults}
 use Rattle.ddc_disk.specs.Since.{started, weaker}

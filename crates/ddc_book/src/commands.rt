@@ -1,7 +1,7 @@
 //! The commands that change a store.
 
 ghost use Rattle.std.specs.Prelude.{◌≡◌, ◌≤◌, true, false, [], length, None, Some, Err, Ok, is_some, option_map, IfOk};
-ghost use Rattle.ddc_disk.specs.Causes.{Rose};
+ghost use Rattle.ddc_names.specs.Causes.{Rose};
 ghost use Rattle.ddc_model.specs.declared.entry.Entry.TheVariants.{Put};
 ghost use Rattle.ddc_model.specs.Limits.{most_bytes};
 ghost use Rattle.ddc_model.specs.State.{blob_at, has_space};

@@ -1,7 +1,7 @@
 //! How an entry is made: all memory first, then the step and the new index, and then the journal.
 
 ghost use Rattle.std.specs.Prelude.{◌≡◌, ◌++◌, ◌∷◌, [], ◌≤◌, ℕ, List, true, None, Some, IfOk, IfSome, OnErr, OnOk, length, Err, Ok};
-ghost use Rattle.ddc_disk.specs.Causes.{HasCause, Rose};
+ghost use Rattle.ddc_names.specs.Causes.{HasCause, Rose};
 ghost use Rattle.ddc_disk.specs.Disk.{EachSince};
 ghost use Rattle.ddc_disk.specs.Images.{devices_faults, devices_line};
 ghost use Rattle.ddc_entry.specs.Spelling.{spelling, IsEntry};

@@ -1,7 +1,7 @@
 //! How a store is made.
 
 ghost use Rattle.std.specs.Prelude.{◌≡◌, ◌⊎◌, ◌≤◌, ◌^◌, [], IsTrue, IfErr, IfOk, OnErr};
-ghost use Rattle.ddc_disk.specs.Causes.{Rose};
+ghost use Rattle.ddc_names.specs.Causes.{Rose};
 ghost use Rattle.ddc_disk.specs.Images.{devices_faults};
 ghost use Rattle.ddc_journal.specs.Journal.{IsReady};
 ghost use Rattle.ddc_book.specs.View.{IsBook};

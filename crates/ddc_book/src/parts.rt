@@ -1,7 +1,7 @@
 //! What a book holds beside its devices.
 
 ghost use Rattle.std.specs.Prelude.{◌≡◌, IfOk, OnErr};
-ghost use Rattle.ddc_disk.specs.Causes.{Rose};
+ghost use Rattle.ddc_names.specs.Causes.{Rose};
 ghost use Rattle.ddc_disk.specs.Images.{devices_line, devices_faults};
 ghost use Rattle.ddc_book.specs.Replaying.{cache_of};
 ghost use Rattle.ddc_book.specs.View.{IsBook};

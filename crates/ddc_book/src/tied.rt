@@ -1,7 +1,7 @@
 //! A book that is passed between threads.
 
 ghost use Rattle.std.specs.Prelude.{◌≡◌, ◌⊎◌, ◌≤◌, true, IsTrue, [], None, Err, length};
-ghost use Rattle.ddc_disk.specs.Causes.{Rose};
+ghost use Rattle.ddc_names.specs.Causes.{Rose};
 ghost use Rattle.ddc_disk.specs.Disk.{EachImage, Timeline};
 ghost use Rattle.ddc_disk.specs.Images.{devices_line, Images};
 ghost use Rattle.ddc_model.specs.Limits.{most_bytes};

@@ -1,7 +1,7 @@
 -- The book that is opened for a new namespace.
 use Rattle.std.proofs.Common.{refl, ◌≡◌, ◌≢◌, ℕ, Bool, true, false, IsTrue, List, Option, Some, None, ◌∙◌, ap, subst, sym, arith, inl, inr, ⊎_elim}
 use Rattle.std.specs.Prelude.{IfSome, IsSome, ◌⊎◌}
-use Rattle.ddc_link.specs.Causes.{Rose}
+use Rattle.ddc_names.specs.Causes.{Rose}
 use Rattle.ddc_disk.specs.Disk.{Meaning, Timeline, IsImage, EachSince}
 use Rattle.ddc_disk.specs.Images.{Images, devices_line, devices_faults}
 use Rattle.ddc_disk.specs.Since.{then_runs, weaker}

@@ -3,7 +3,7 @@ use Rattle.std.proofs.Common.{ℕ, List, ◌++◌, Option, Result, Ok, Err, OnOk
 use Rattle.std.specs.Io.KnownBytes.{Appends}
 use Rattle.std.proofs.KnownBytes.{Appends-trans}
 use Rattle.ddc_names.specs.declared.Failed.{Failed}
-use Rattle.ddc_link.specs.Causes.{HasCause}
+use Rattle.ddc_names.specs.Causes.{HasCause}
 use Rattle.ddc_link.specs.Writes.{AppendsFront}
 use Rattle.ddc_command.specs.Top.{Noted, NotesAs}
 use Rattle.ddc_command.proofs.Writing.{front_more, front_behind, rose_later}

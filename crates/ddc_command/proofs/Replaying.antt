@@ -1,7 +1,7 @@
 -- What answering a stream from an opened store leaves.
 use Rattle.std.proofs.Common.{◌≡◌, ◌≢◌, ℕ, Bool, IsTrue, List, [], Option, Some, None, refl, ◌∙◌, subst, sym, arith}
 use Rattle.std.specs.Prelude.{IfSome, ◌⊎◌}
-use Rattle.ddc_link.specs.Causes.{Rose}
+use Rattle.ddc_names.specs.Causes.{Rose}
 use Rattle.ddc_disk.specs.Disk.{Meaning, IsImage, EachImage, EachSince}
 use Rattle.ddc_disk.specs.Images.{Images, devices_line, devices_faults}
 use Rattle.ddc_disk.specs.Since.{then_runs, weaker}

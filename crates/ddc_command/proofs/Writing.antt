@@ -2,7 +2,7 @@
 use Rattle.std.proofs.Common.{◌≤◌, arith, ℕ, List, [], ◌++◌, refl, sym, ap, ◌∙◌, append_assoc, append-nil, Option, Some, None}
 use Rattle.std.specs.Io.KnownBytes.{Appends, Keeps}
 use Rattle.std.proofs.KnownBytes.{Appends-trans}
-use Rattle.ddc_link.specs.Causes.{Rose}
+use Rattle.ddc_names.specs.Causes.{Rose}
 use Rattle.ddc_link.specs.Writes.{AppendsFront}
 
 -- a front of a text is one of a longer text

@@ -6,7 +6,7 @@ use Rattle.std.specs.Io.KnownBytes.{Appends}
 use Rattle.ddc_names.specs.declared.Failed.{Failed}
 use Rattle.ddc_names.specs.declared.reference.RefName.{RefName}
 use Rattle.ddc_names.specs.Names.{hash_text}
-use Rattle.ddc_link.specs.Causes.{Rose}
+use Rattle.ddc_names.specs.Causes.{Rose}
 use Rattle.ddc_link.specs.Writes.{AppendsFront}
 use Rattle.ddc_disk.specs.Disk.{Meaning, Timeline, EachImage, EachSince}
 use Rattle.ddc_disk.specs.Images.{Images, devices_faults, devices_line}

@@ -1,7 +1,7 @@
 // One stream of requests.
 ghost use Rattle.std.specs.Prelude.{◌≡◌, ◌≢◌, ◌⊎◌, ◌≤◌, false, [], None, IsTrue};
 ghost use Rattle.std.specs.Io.KnownBytes.{prepend_known};
-ghost use Rattle.ddc_link.specs.Causes.{Rose};
+ghost use Rattle.ddc_names.specs.Causes.{Rose};
 ghost use Rattle.ddc_disk.specs.Disk.{EachImage, EachSince};
 ghost use Rattle.ddc_model.specs.History.{broken_by};
 ghost use Rattle.ddc_book.specs.Calls.{GoesOn};

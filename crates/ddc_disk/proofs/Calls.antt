@@ -1,7 +1,7 @@
 -- The trait's clauses, from how a call changed the history.
 use Rattle.std.proofs.Common.{◌≡◌, ⊎_elim, ℕ, ◌+◌, ◌-◌, ◌≤◌, ◌<◌, ◌^◌, min, List, [], ◌∷◌, ◌++◌, length, refl, sym, ◌∙◌, ap, subst, arith}
-use Rattle.std.specs.Prelude.{Bool, true, false, IsTrue, Result, Ok, Err, OnOk, MatchResult}
-use Rattle.ddc_disk.specs.Causes.{HasCause}
+use Rattle.std.specs.Prelude.{Bool, true, false, IsTrue, Result, Ok, Err, IsErr, OnOk, MatchResult}
+use Rattle.ddc_names.specs.Causes.{HasCause}
 use Rattle.ddc_disk.specs.Disk.{Timeline, IsImage, EachImage, Continues, Tears, IsCalm, overwritten}
 use Rattle.ddc_disk.specs.Since.{torn_not}
 use Rattle.ddc_disk.specs.declared.call.Call.{Call}
@@ -89,16 +89,16 @@ module _ (h : History) (in_order : IsTrue (all_by h.moment h.calls)) where
   fault_rose what new after = by_fault (λ x. min (faults_of h + 1) (2 ^ 64 - 1) ≤ faults_of x) what new (more_faults what) (omega arith) after
 
   pub call_cause : {T E : Type 0} (what : What) (r : Result T E) (new : History) → AfterCall h what r new → HasCause (faults_of h) (faults_of new) r
-  call_cause what (Ok x) new after = record { later = omega (arith, ap faults_of after.1, same_faults what); failed = tt }
-  call_cause what (Err e) new after = let rose = fault_rose what new after in record { later = omega (arith, rose); failed = rose }
+  call_cause what (Ok x) new after = let same = sym (same_faults what) ∙ ap faults_of (sym after.1) in record { later = omega (arith, same); failed = tt; same = same }
+  call_cause what (Err e) new after = let rose = fault_rose what new after in record { later = omega (arith, rose); failed = rose; same = tt }
 
   -- the same where the answer is known
   pub done_cause : {T E : Type 0} (what : What) (x : T) (new : History) → new ≡ noted h what true → HasCause {E = E} (faults_of h) (faults_of new) (Ok x)
-  done_cause what x new after = record { later = omega (arith, ap faults_of after, same_faults what); failed = tt }
+  done_cause what x new after = let same = sym (same_faults what) ∙ ap faults_of (sym after) in record { later = omega (arith, same); failed = tt; same = same }
 
-  pub fault_cause : {T E : Type 0} (what : What) (r : Result T E) (new : History) → AfterFault h what new → HasCause (faults_of h) (faults_of new) r
-  fault_cause what (Ok x) new after = let rose = fault_rose what new after in record { later = omega (arith, rose); failed = tt }
-  fault_cause what (Err e) new after = let rose = fault_rose what new after in record { later = omega (arith, rose); failed = rose }
+  pub fault_cause : {T E : Type 0} (what : What) (r : Result T E) (new : History) → IsErr r → AfterFault h what new → HasCause (faults_of h) (faults_of new) r
+  fault_cause what (Ok x) new is after = cc is
+  fault_cause what (Err e) new is after = let rose = fault_rose what new after in record { later = omega (arith, rose); failed = rose; same = tt }
 
   pub look_calm : {T E : Type 0} (r : Result T E) (new : History) → AfterCall h Look r new → IsCalm (line h) (line new)
   look_calm r new after = by_call (λ x. IsCalm (line h) (line x)) Look r new (noted_looks true) (noted_looks false) (λ image now. now) after
@@ -152,7 +152,7 @@ module _ (h : History) (in_order : IsTrue (all_by h.moment h.calls)) where
     far_rose = by_too_far (λ x. min (faults_of h + 1) (2 ^ 64 - 1) ≤ faults_of x) new (more_faults Look) (omega arith) (omega (arith, same_faults Look)) after
 
     pub far_cause : {T E : Type 0} (e : E) → HasCause {T = T} (faults_of h) (faults_of new) (Err e)
-    far_cause e = record { later = omega (arith, far_rose); failed = far_rose }
+    far_cause e = record { later = omega (arith, far_rose); failed = far_rose; same = tt }
 
 pub same_small : (old new : List ℕ) → new ≡ old → length old < 2 ^ 64 → length new < 2 ^ 64
 same_small old new same small = omega (arith, ap length same, small)

@@ -1,4 +1,3 @@
-pub mod Causes
 pub mod Disk
 pub mod Since
 pub mod Told

@@ -2,7 +2,7 @@
 //! no clause.
 
 ghost use Rattle.std.specs.Prelude.{◌≡◌, ◌≤◌, ◌+◌, ◌^◌, false, length, IsErr, None};
-ghost use Rattle.ddc_disk.specs.Causes.{HasCause};
+ghost use Rattle.ddc_names.specs.Causes.{HasCause};
 ghost use Rattle.ddc_disk.specs.Unknown.{unknown, unknown_rests, never_told, never_small};
 
 use crate::Disk;

@@ -5,7 +5,7 @@
 #![tactic(auto)]
 
 ghost use Rattle.std.specs.Prelude.{◌≡◌, ◌+◌, ◌^◌, ◌≤◌, ◌<◌, ℕ, Bool, IsTrue, IsSome, List, length, slice_index, EachIndex, Some, IfSome, IfOk, OnOk, IsErr};
-ghost use Rattle.ddc_disk.specs.Causes.{HasCause};
+ghost use Rattle.ddc_names.specs.Causes.{HasCause};
 ghost use Rattle.ddc_disk.specs.Disk.{Meaning, IsImage, EachImage, overwritten, Tears, IsCalm, Waits, Continues, Rests, EachSince, MayTear, IsSure};
 
 use ddc_names::Failed;
@@ -25,7 +25,8 @@ pub use devices::{Devices, HeldDevices};
 pub use file::FileDisk;
 pub use mem_disk::MemDisk;
 
-/// A file on a device that may fail and crash.
+/// A file on a device that may fail and crash. Each call that answers `Failed` raises the count of
+/// faults, and each call that is Ok leaves it as it was: what fails is never tried again unseen.
 pub trait Disk {
     /// What the disk holds, where it tells that; its count of faults; its moment, and the images that
     /// a crash at each moment may leave.

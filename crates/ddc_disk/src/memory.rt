@@ -1,7 +1,7 @@
 //! A disk in memory. It keeps each call, so that it knows what a crash at any moment might have left.
 
 ghost use Rattle.std.specs.Prelude.{◌≡◌, ◌+◌, ◌^◌, ◌<◌, ◌≤◌, [], true, length, slice_index, EachIndex, IfOk, IfSome, IsErr, IsTrue, OnOk, Some, refl, take};
-ghost use Rattle.ddc_disk.specs.Causes.{HasCause};
+ghost use Rattle.ddc_names.specs.Causes.{HasCause};
 ghost use Rattle.ddc_disk.specs.Disk.{IsImage, overwritten, Tears, IsCalm, Continues, EachImage};
 ghost use Rattle.ddc_disk.specs.Memory.{fresh, after_calls, history, memory_meaning, reads_now, all_by, IsCrash, AfterCall, AfterTooFar};
 ghost use Rattle.ddc_disk.specs.MemDisks.{history_of, told_by, line_of};

@@ -1,7 +1,7 @@
 // Requests taken from what is held and from a source.
 ghost use Rattle.std.specs.Prelude.{◌≡◌, ◌≤◌, ◌<◌, ◌+◌, ◌-◌, ◌^◌, min, length, vec_len, drop, true};
 ghost use Rattle.std.specs.Io.KnownBytes.{prepend_known};
-ghost use Rattle.ddc_link.specs.Causes.{Rose};
+ghost use Rattle.ddc_names.specs.Causes.{Rose};
 ghost use Rattle.cb_fields.specs.Language.{IsNoObject};
 ghost use Rattle.ddc_protocol.specs.Requests.{HasNoHead};
 ghost use Rattle.ddc_protocol.specs.declared.form.Form.TheVariants.{PutBlob, PutRef};

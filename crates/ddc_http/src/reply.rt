@@ -6,7 +6,7 @@ ghost use Rattle.hex.specs.Hex.{encode_lower};
 ghost use Rattle.json.specs.Print.{escape};
 ghost use Rattle.serde_json.specs.Data.{string, unsigned, number, object, member, no_members};
 ghost use Rattle.serde_json.specs.View.{view};
-ghost use Rattle.ddc_link.specs.Causes.{Rose};
+ghost use Rattle.ddc_names.specs.Causes.{Rose};
 ghost use Rattle.ddc_link.specs.Writes.{AppendsFront};
 ghost use Rattle.ddc_protocol.specs.Replies.{head_text, hash_line, close_line, opening_text, ending_text, identifier_body, error_body, mismatch_body, not_object_body, what_text, full_body, history_full_body, damaged_body, needs_body};
 ghost use Rattle.ddc_http.specs.Heads.{kind_text, text_of, code_text, hash_entry, IsAnswered, fault_text, StatusPhrases};

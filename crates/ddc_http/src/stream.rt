@@ -1,7 +1,7 @@
 // A reader of the requests of one stream.
 ghost use Rattle.std.specs.Prelude.{◌≡◌, ◌≤◌, [], false, IfOk};
 ghost use Rattle.std.specs.Io.KnownBytes.{prepend_known};
-ghost use Rattle.ddc_link.specs.Causes.{Rose};
+ghost use Rattle.ddc_names.specs.Causes.{Rose};
 ghost use Rattle.ddc_http.specs.Reader.{Answers, HasItem};
 ghost use Rattle.ddc_http.specs.Stream.{EndedAs, source_of, held_of, place_of, has_ended};
 

@@ -1,7 +1,7 @@
 //! How an empty journal is made.
 
 ghost use Rattle.std.specs.Prelude.{◌≡◌, ◌⊎◌, ◌<◌, ◌^◌, [], ℕ, List, false, length, IfErr, IfOk, IfSome, OnOk, ◌≤◌};
-ghost use Rattle.ddc_disk.specs.Causes.{HasCause};
+ghost use Rattle.ddc_names.specs.Causes.{HasCause};
 ghost use Rattle.ddc_disk.specs.Disk.{EachSince, IsImage, IsSure};
 ghost use Rattle.ddc_journal.specs.Journal.{header, is_made, IsReady, NotMadeOrEmpty};
 ghost use Rattle.ddc_journal.specs.Making.{NotMade, IsClosed, IsBlank};

@@ -1,7 +1,7 @@
 //! The journal, and how a body is appended.
 
 ghost use Rattle.std.specs.Prelude.{◌≡◌, ◌++◌, ◌∷◌, ◌+◌, ◌<◌, ◌^◌, [], List, ℕ, length, OnOk, IfErr};
-ghost use Rattle.ddc_disk.specs.Causes.{HasCause};
+ghost use Rattle.ddc_names.specs.Causes.{HasCause};
 ghost use Rattle.ddc_disk.specs.Disk.{EachSince};
 ghost use Rattle.ddc_journal.specs.Journal.{framed, LoadsEither, IsReady};
 ghost use Rattle.ddc_journal.specs.declared.fault.JournalFault.TheVariants.{DiskFailed};

@@ -1,7 +1,7 @@
 //! How a journal is loaded.
 
 ghost use Rattle.std.specs.Prelude.{◌≡◌, ◌⊎◌, ◌≤◌, IfErr, IfOk, IfSome};
-ghost use Rattle.ddc_disk.specs.Causes.{Rose};
+ghost use Rattle.ddc_names.specs.Causes.{Rose};
 ghost use Rattle.ddc_disk.specs.Disk.{EachSince, IsCalm, IsImage};
 ghost use Rattle.ddc_journal.specs.Journal.{generation_in, IsReady};
 ghost use Rattle.ddc_journal.specs.Faults.{FaultOf, LoadsAs};

@@ -21,8 +21,8 @@ pub record Store : Type 0 where
   pub starved : ℕ
 
 -- a count that rises, up to its last value
-abbrev pub raised : ℕ → ℕ
-raised count = min (count + 1) (2 ^ 64 - 1)
+abbrev pub one_higher : ℕ → ℕ
+one_higher count = min (count + 1) (2 ^ 64 - 1)
 
 -- whether the call of this number fails
 abbrev pub is_listed : List ℕ → ℕ → Bool
@@ -40,16 +40,16 @@ piece feed room = limited (slice_get feed.sizes feed.calls) (min (length feed.le
 -- a source after a call with so much room
 abbrev pub after_take : Feed → ℕ → Feed
 after_take feed room =
-    if is_listed feed.failing feed.calls then record feed { calls = raised feed.calls; faults = raised feed.faults }
-    else record feed { left = drop (piece feed room) feed.left; calls = raised feed.calls }
+    if is_listed feed.failing feed.calls then record feed { calls = one_higher feed.calls; faults = one_higher feed.faults }
+    else record feed { left = drop (piece feed room) feed.left; calls = one_higher feed.calls }
 
 -- a sink after a call that failed: as listed, or for want of memory
 abbrev pub after_fault : Store → Store
 after_fault store =
-    if is_listed store.failing store.calls then record store { calls = raised store.calls; failed = raised store.failed }
-    else record store { starved = raised store.starved }
+    if is_listed store.failing store.calls then record store { calls = one_higher store.calls; failed = one_higher store.failed }
+    else record store { starved = one_higher store.starved }
 
 -- a sink after a call, which wrote all of the bytes or failed
 abbrev pub after_put : Store → Bool → List ℕ → Store
-after_put store true bytes = record store { written = store.written ++ bytes; calls = raised store.calls }
+after_put store true bytes = record store { written = store.written ++ bytes; calls = one_higher store.calls }
 after_put store false bytes = after_fault store

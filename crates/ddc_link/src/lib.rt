@@ -7,7 +7,7 @@
 ghost use Rattle.std.specs.Prelude.{◌≡◌, ℕ, ◌<◌, ◌≤◌, List, Option, length, IfOk, OnOk, OnErr, IfSome};
 ghost use Rattle.std.specs.Io.{ReadsAtMost};
 ghost use Rattle.std.specs.Io.KnownBytes.{ReadConsumes, WriteAppends, Appends};
-ghost use Rattle.ddc_link.specs.Causes.{HasCause};
+ghost use Rattle.ddc_names.specs.Causes.{HasCause};
 ghost use Rattle.ddc_link.specs.Writes.{AppendsFront};
 
 use ddc_names::Failed;
@@ -22,7 +22,8 @@ pub use clocks::{FixedClock, SystemClock};
 pub use memory::{MemSink, MemSource};
 pub use standard::{StdSink, StdSource};
 
-/// Where bytes come from.
+/// Where bytes come from. Each call that answers `Failed` raises the count of faults, and each call
+/// that is Ok leaves it as it was.
 pub trait Source {
     /// The bytes that are left, where the source tells them.
     ghost left: { Self → Option (List ℕ) };
@@ -43,7 +44,8 @@ pub trait Source {
         ensures cause { HasCause (faults self.old) (faults self.new) result };
 }
 
-/// Where bytes go.
+/// Where bytes go. Each call that answers `Failed` raises the count of faults, and each call that is
+/// Ok leaves it as it was.
 pub trait Sink {
     /// The bytes that were written, where the sink tells them.
     ghost written: { Self → Option (List ℕ) };

@@ -3,7 +3,7 @@
 ghost use Rattle.std.specs.Prelude.{◌≡◌, ◌+◌, ◌<◌, ◌≤◌, ◌↔◌, [], false, length, Some, IsErr, IfOk, IsTrue, OnOk, is_ok, slice_get};
 ghost use Rattle.std.specs.Io.{ReadsAtMost};
 ghost use Rattle.std.specs.Io.KnownBytes.{ReadConsumes, WriteAppends};
-ghost use Rattle.ddc_link.specs.Causes.{HasCause};
+ghost use Rattle.ddc_names.specs.Causes.{HasCause};
 ghost use Rattle.ddc_link.specs.Memory.{is_listed, limited, piece, after_take, after_put};
 
 use crate::{Sink, Source};

@@ -3,14 +3,14 @@
 ghost use Rattle.std.specs.Prelude.{◌≡◌, ◌<◌, ◌≤◌, length, IfOk, None};
 ghost use Rattle.std.specs.Io.{ReadsAtMost};
 ghost use Rattle.std.specs.Io.KnownBytes.{ReadConsumes, WriteAppends};
-ghost use Rattle.ddc_link.specs.Causes.{HasCause};
+ghost use Rattle.ddc_names.specs.Causes.{HasCause};
 
 use crate::{Sink, Source};
 use ddc_names::Failed;
 use std::io::{Read, Stderr, Stdin, Stdout, Write};
 
-/// Standard input.
-#[derive(Clone, Copy)]
+/// Standard input. It can't be copied, so that its count of faults never falls.
+#[derive(Drop)]
 pub struct StdSource {
     input: Stdin,
     faults: u64,
@@ -18,7 +18,9 @@ pub struct StdSource {
 
 impl StdSource {
     /// The standard input that the runtime's handle stands for.
-    pub fn new(input: Stdin) -> StdSource {
+    pub fn new(input: Stdin) -> StdSource
+        ensures { result.faults ≡ 0 }
+    {
         StdSource { input, faults: 0 }
     }
 }
@@ -33,8 +35,8 @@ impl Source for StdSource {
     }
 }
 
-/// Standard output or standard error.
-#[derive(Clone, Copy)]
+/// Standard output or standard error. It can't be copied, so that its count of faults never falls.
+#[derive(Drop)]
 pub struct StdSink {
     stream: Stream,
     faults: u64,
@@ -48,7 +50,9 @@ enum Stream {
 
 impl StdSink {
     /// The standard output that the runtime's handle stands for.
-    pub fn out(output: Stdout) -> StdSink {
+    pub fn out(output: Stdout) -> StdSink
+        ensures { result.faults ≡ 0 }
+    {
         StdSink {
             stream: Stream::Out(output),
             faults: 0,
@@ -56,7 +60,9 @@ impl StdSink {
     }
 
     /// The standard error that the runtime's handle stands for.
-    pub fn err(output: Stderr) -> StdSink {
+    pub fn err(output: Stderr) -> StdSink
+        ensures { result.faults ≡ 0 }
+    {
         StdSink {
             stream: Stream::Err(output),
             faults: 0,

@@ -1,6 +1,8 @@
 //! Pieces, faults and hours that a reader can count by hand.
 
-use crate::{Clock, FixedClock, MemSink, MemSource, Sink, Source, StdSink, SystemClock, put_all};
+use crate::{
+    Clock, FixedClock, MemSink, MemSource, Sink, Source, StdSink, StdSource, SystemClock, put_all,
+};
 use ddc_names::{ByteList, Failed, NoMemory, Rows};
 use std::alloc::Global;
 use std::io;
@@ -90,4 +92,10 @@ fn standard_streams_write_what_they_are_given(rt: HostRuntime) {
     assert_eq!(rt; put_all(&mut output, b"out\n"), Ok(()));
     let mut errors = StdSink::err(rt.stderr());
     assert_eq!(rt; put_all(&mut errors, b"err\n"), Ok(()));
+}
+
+#[test]
+fn standard_input_is_read(rt: HostRuntime) {
+    let mut input = StdSource::new(rt.stdin());
+    assert!(rt; input.take(&mut [0; 4]).is_ok());
 }

@@ -1,6 +1,6 @@
 -- What the least faults of texts say.
-use Rattle.std.proofs.Common.{◌≡◌, ◌≢◌, ℕ, ◌+◌, ◌*◌, ◌%◌, is_some, unwrap_or, ◌≤◌, ◌<◌, Bool, true, false, ◌&&◌, ◌==◌, nat_le, List, [], ◌∷◌, length, nat_lt, if◌then◌else◌, Option, Some, None, Result, Ok, Err, refl, sym, ap, ◌∙◌, arith}
-use Rattle.std.specs.Prelude.{◌↔◌, IsUtf8, slice_index}
+use Rattle.std.proofs.Common.{◌≡◌, ◌≢◌, ℕ, ◌+◌, ◌*◌, ◌%◌, is_some, unwrap_or, ◌≤◌, ◌<◌, Bool, true, false, ◌&&◌, ◌==◌, nat_le, List, [], ◌∷◌, length, nat_lt, if◌then◌else◌, Option, Some, None, Result, Ok, Err, refl, sym, ap, ◌∙◌, arith, subst, ⊎_elim, inl, inr}
+use Rattle.std.specs.Prelude.{◌↔◌, ◌⊎◌, zero, suc, IsUtf8, slice_index}
 use Rattle.std.specs.List.{AllPass, list_all}
 use Rattle.std.specs.Result.{result_ok}
 use Rattle.std.specs.Char.{is_ascii_alphanumeric}
@@ -16,7 +16,7 @@ use Rattle.hex.proofs.Pairs.{cons_byte, decode_pairs-ok_pair, decode_sized-pairs
 use Rattle.hex.proofs.HexLemmas.{IsOk-decode_sized, decode_sized-encode_lower}
 use Rattle.ddc_names.specs.declared.hash.IoHash.{IoHash}
 use Rattle.ddc_names.specs.declared.reference.RefKey.{RefKey}
-use Rattle.ddc_names.specs.Texts.{fault_from, is_name, is_name_byte, is_name_byte_at, name_fault, digits_fault, digit_of, bytes_of}
+use Rattle.ddc_names.specs.Texts.{fault_from, is_name, is_name_byte, is_name_byte_at, name_fault, digits_fault, digit_of, bytes_of, IsLeastFault, BreaksName, BreaksDigits}
 use Rattle.ddc_names.specs.Names.{checked, hash_of, hash_text, key_of, key_text}
 
 -- where a step leaves no fault, its test passed
@@ -96,6 +96,83 @@ name_fault-none (b ∷ rest) = (
       rw front.1 ih,
 )
 
+-- behind a first place, a text has a byte that may stand there
+abbrev Stands : (ℕ → ℕ → Bool) → ℕ → ℕ → List ℕ → ℕ → Type 0
+Stands allowed most at text j = (j < length text) × (at + j < most) × (allowed (at + j) (slice_index text j) ≡ true)
+
+module _ (allowed : ℕ → ℕ → Bool) (most at b : ℕ) (rest : List ℕ) where
+  stands_first : (nat_lt at most && allowed at b) ≡ true → Stands allowed most at (b ∷ rest) 0
+  stands_first h =
+      let tests = and_parts (nat_lt at most) (allowed at b) h in
+      let room : at < most = grind (arith, nat_tests) in
+      (omega arith, omega (arith, room), subst (λ (m : ℕ). allowed m b ≡ true) (omega arith) tests.1)
+
+  falls_first : (nat_lt at most && allowed at b) ≡ false → ¬ (Stands allowed most at (b ∷ rest) 0)
+  falls_first h stands =
+      let (long, room, is) = stands in
+      let test : nat_lt at most ≡ true = grind (arith, nat_tests) in
+      let byte : allowed at b ≡ true = subst (λ (m : ℕ). allowed m b ≡ true) (omega arith) is in
+      let both : (nat_lt at most && allowed at b) ≡ true = rw (test, byte) refl in
+      cc (h, both)
+
+  stands_later : (k : ℕ) → Stands allowed most (at + 1) rest k → Stands allowed most at (b ∷ rest) (suc k)
+  stands_later k stands =
+      let (long, room, is) = stands in
+      (omega (arith, long), omega (arith, room), subst (λ (m : ℕ). allowed m (slice_index rest k) ≡ true) (omega arith) is)
+
+  stood_later : (k : ℕ) → Stands allowed most at (b ∷ rest) (suc k) → Stands allowed most (at + 1) rest k
+  stood_later k stands =
+      let (long, room, is) = stands in
+      (omega (arith, long), omega (arith, room), subst (λ (m : ℕ). allowed m (slice_index rest k) ≡ true) (omega arith) is)
+
+  before_later : (n : ℕ) → (nat_lt at most && allowed at b) ≡ true → ((j : ℕ) → j < n → Stands allowed most (at + 1) rest j) → (j : ℕ) → j < suc n → Stands allowed most at (b ∷ rest) j
+  before_later n first before zero less = stands_first first
+  before_later n first before (suc k) less = stands_later k (before k (omega (arith, less)))
+
+-- where a scan finds a fault
+ended : (test : Bool) (at p : ℕ) → (if test then Some at else None) ≡ Some p → p ≡ at
+ended true at p h = cc h
+ended false at p h = cc h
+
+step_some : (test : Bool) (rest : Option ℕ) (at p : ℕ) → (if test then rest else Some at) ≡ Some p → ((test ≡ true) × (rest ≡ Some p)) ⊎ ((test ≡ false) × (p ≡ at))
+step_some true rest at p h = inl (refl, h)
+step_some false rest at p h = inr (refl, cc h)
+
+-- a scan finds the least place without a byte that may stand there
+fault_place : (allowed : ℕ → ℕ → Bool) (least most at : ℕ) (text : List ℕ) (p : ℕ) → fault_from allowed least most at text ≡ Some p
+    → (n : ℕ) × (p ≡ at + n) × ((j : ℕ) → j < n → Stands allowed most at text j) × (¬ (Stands allowed most at text n))
+fault_place allowed least most at [] p h =
+    let end : p ≡ at = ended (nat_lt at least) at p h in
+    (0, omega (arith, end), (λ j less. absurd (omega (arith, less))), (λ stands. absurd (omega (arith, stands.0))))
+fault_place allowed least most at (b ∷ rest) p h =
+    ⊎_elim
+    (λ on.
+    let (n, is, before, here) = fault_place allowed least most (at + 1) rest p on.1 in
+    (suc n, omega (arith, is), before_later allowed most at b rest n on.0 before, (λ stands. here (stood_later allowed most at b rest n stands))))
+    (λ off. (0, omega (arith, off.1), (λ j less. absurd (omega (arith, less))), falls_first allowed most at b rest off.0))
+    (step_some (nat_lt at most && allowed at b) (fault_from allowed least most (at + 1) rest) at p h)
+
+least_fault : (allowed : ℕ → ℕ → Bool) (least most : ℕ) (text : List ℕ) (p : ℕ) → fault_from allowed least most 0 text ≡ Some p → IsLeastFault allowed most text p
+least_fault allowed least most text p h =
+    let (n, is, before, here) = fault_place allowed least most 0 text p h in
+    let to : (j : ℕ) → 0 + j ≡ j = λ j. omega arith in
+    record {
+      before = λ i less. subst (λ (m : ℕ). (i < length text) × (m < most) × (allowed m (slice_index text i) ≡ true)) (to i) (before i (omega (arith, is, less)));
+      here = λ has. here (subst (λ (m : ℕ). (m < length text) × (0 + m < most) × (allowed (0 + m) (slice_index text m) ≡ true)) (is ∙ to n) (subst (λ (m : ℕ). (p < length text) × (m < most) × (allowed m (slice_index text p) ≡ true)) (sym (to p)) has));
+    }
+
+not_true : (b : Bool) → (b ≡ true → ⊥) → b ≡ false
+not_true true never = absurd (never refl)
+not_true false never = refl
+
+-- a fault of a name says that it is none, and where
+pub breaks_name : (text : List ℕ) (at : ℕ) → name_fault text ≡ Some at → BreaksName text at
+breaks_name text at h =
+    (not_true (is_name text) (λ is. let none = (name_fault-none text).1 is in cc (h, none)), least_fault is_name_byte_at 1 64 text at h)
+
+pub name_by_scan : (text : List ℕ) → name_fault text ≡ None → is_name text ≡ true
+name_by_scan text h = (name_fault-none text).0 h
+
 -- the fact of `AllPass is_hex_digit`
 abbrev IsDigit : ℕ → Type 0
 IsDigit b = is_hex_digit b ≡ true
@@ -125,6 +202,11 @@ digits_fault-none text = (
   λ h. let parts = rest_of_digits 0 text (omega arith) h in (omega arith, parts.1),
   λ h. faultless_digits 0 text (omega arith) h.1,
 )
+
+-- a fault of 40 digits says that they aren't, and where
+pub breaks_digits : (text : List ℕ) (at : ℕ) → digits_fault text ≡ Some at → BreaksDigits text at
+breaks_digits text at h =
+    ((λ digits. let none = (digits_fault-none text).1 digits in cc (h, none)), least_fault (λ at b. is_hex_digit b) 40 40 text at h)
 
 -- the value of a digit
 digit_value : (c i : ℕ) (o : Option ℕ) → is_some o ≡ true → digit_or_error c i o ≡ Ok (unwrap_or o 0)

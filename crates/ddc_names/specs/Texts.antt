@@ -1,6 +1,6 @@
 -- The texts of names, hashes and keys: which bytes may stand where, and how many.
-use Rattle.std.specs.Prelude.{◌≡◌, ℕ, ◌+◌, ◌-◌, ◌*◌, ◌==◌, Bool, ◌&&◌, ◌||◌, nat_le, nat_lt, if◌then◌else◌, List, [], ◌∷◌, ◌++◌, length, take, replicate, slice_index, Option, Some, None, unwrap_or}
-use Rattle.std.specs.List.{list_all}
+use Rattle.std.specs.Prelude.{◌≡◌, ◌<◌, ℕ, ◌+◌, ◌-◌, ◌*◌, ◌==◌, Bool, true, false, ◌&&◌, ◌||◌, nat_le, nat_lt, if◌then◌else◌, List, [], ◌∷◌, ◌++◌, length, take, replicate, slice_index, Option, Some, None, unwrap_or}
+use Rattle.std.specs.List.{AllPass, list_all}
 use Rattle.std.specs.Char.{is_ascii_alphanumeric}
 use Rattle.hex.specs.Hex.{hex_digit_value, is_hex_digit}
 
@@ -32,6 +32,27 @@ digits_fault text = fault_from (λ at b. is_hex_digit b) 40 40 0 text
 abbrev pub is_name : List ℕ → Bool
 is_name text = nat_le 1 (length text) && nat_le (length text) 64 && is_ascii_alphanumeric (slice_index text 0) && list_all is_name_byte text
 
+-- 40 hexadecimal digits of either case
+abbrev pub AreDigits : List ℕ → Type 0
+AreDigits text = (length text ≡ 40) × AllPass is_hex_digit text
+
+-- a text has a byte at this place, before `most`, and the byte may stand there
+abbrev pub HasAllowed : (ℕ → ℕ → Bool) → ℕ → List ℕ → ℕ → Type 0
+HasAllowed allowed most text at = (at < length text) × (at < most) × (allowed at (slice_index text at) ≡ true)
+
+-- the least place at which a text has no byte that may stand there
+pub record IsLeastFault (allowed : ℕ → ℕ → Bool) (most : ℕ) (text : List ℕ) (at : ℕ) : Type 0 where
+  pub before : (i : ℕ) → i < at → HasAllowed allowed most text i
+  pub here : ¬ (HasAllowed allowed most text at)
+
+-- a text is no name, and this is the least place at which it breaks the rule
+abbrev pub BreaksName : List ℕ → ℕ → Type 0
+BreaksName text at = (is_name text ≡ false) × IsLeastFault is_name_byte_at 64 text at
+
+-- the same of 40 hexadecimal digits
+abbrev pub BreaksDigits : List ℕ → ℕ → Type 0
+BreaksDigits text at = (¬ (AreDigits text)) × IsLeastFault (λ at b. is_hex_digit b) 40 text at
+
 -- the number that a hexadecimal digit of either case stands for
 abbrev pub digit_of : ℕ → ℕ
 digit_of c = unwrap_or (hex_digit_value c) 0
@@ -43,11 +64,11 @@ bytes_of (high ∷ []) = []
 bytes_of (high ∷ low ∷ rest) = (digit_of high * 16 + digit_of low) ∷ bytes_of rest
 
 -- a text with zeros behind it, 64 bytes in all
-abbrev pub padded : List ℕ → List ℕ
-padded text = text ++ replicate {A = ℕ} (64 - length text) 0
+abbrev pub in_64_bytes : List ℕ → List ℕ
+in_64_bytes text = text ++ replicate {A = ℕ} (64 - length text) 0
 
 -- the first `len` of 64 bytes are a name, and zeros stand behind it
 pub record IsNamed (bytes : List ℕ) (len : ℕ) : Type 0 where
   pub named : name_fault (take len bytes) ≡ None
-  pub zeros : bytes ≡ padded (take len bytes)
+  pub zeros : bytes ≡ in_64_bytes (take len bytes)
   pub counted : len ≡ length (take len bytes)

@@ -5,6 +5,7 @@
 
 mod hash;
 mod name;
+mod orders;
 mod reference;
 mod rows;
 #[cfg(test)]
@@ -12,6 +13,10 @@ mod tests;
 
 pub use hash::IoHash;
 pub use name::{BadName, Bucket, Namespace};
+pub use orders::{
+    order_of_buckets, order_of_hashes, order_of_keys, order_of_namespaces, order_of_references,
+    order_of_spots,
+};
 pub use reference::{RefKey, RefName, RefSpot};
 pub use rows::{ByteList, NoMemory, Rows};
 

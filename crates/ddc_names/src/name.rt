@@ -1,10 +1,10 @@
 //! The names of namespaces and buckets.
 
-ghost use Rattle.std.specs.Prelude.{◌≡◌, ◌≤◌, ◌&&◌, nat_eq, nat_lt, length, None, Some, IfOk, IfErr, OnOk, refl};
+ghost use Rattle.std.specs.Prelude.{◌≡◌, ◌≤◌, ◌&&◌, nat_eq, nat_lt, true, length, None, Some, IfOk, IfErr, OnOk, refl};
 ghost use Rattle.std.specs.Ordering.{nat_cmp};
 ghost use Rattle.std.specs.Cmp.{partial_equiv_from_equiv};
 ghost use Rattle.std.specs.Cmp.Lexicographic.{pointwise, slice_cmp, nat_list_eq_equiv, nat_list_cmp_total, texts_po, texts_ties};
-ghost use Rattle.ddc_names.specs.Texts.{is_name_byte_at, name_fault, padded};
+ghost use Rattle.ddc_names.specs.Texts.{is_name, is_name_byte_at, name_fault, in_64_bytes, BreaksName};
 ghost use Rattle.ddc_names.specs.Names.{name_of};
 
 use std::cmp::Ordering;
@@ -28,7 +28,7 @@ struct Name {
 impl Model for Name {
     ghost use Rattle.std.specs.Prelude.{ℕ, List, length, take};
     ghost use Rattle.std.proofs.Common.{sym};
-    ghost use Rattle.ddc_names.specs.Texts.{padded, IsNamed};
+    ghost use Rattle.ddc_names.specs.Texts.{in_64_bytes, IsNamed};
 
     ghost Value = { List ℕ };
 
@@ -36,7 +36,7 @@ impl Model for Name {
 
     ghost invariant = { λ name. IsNamed name.bytes name.len };
 
-    ghost inverse = { λ text. record { bytes = padded text; len = length text } };
+    ghost inverse = { λ text. record { bytes = in_64_bytes text; len = length text } };
 
     ghost inverse_ok = { λ name h i. record { bytes = sym h.zeros i; len = sym h.counted i } };
 }
@@ -45,8 +45,8 @@ impl Name {
     fn parse(text: &str) -> Result<Name, BadName>
         ensures read { result ≡ name_of text.now }
         ensures text { IfOk result (λ name. name ≡ text.now) }
-        ensures named { OnOk result (name_fault text.now ≡ None) }
-        ensures fault { IfErr result (λ fault. name_fault text.now ≡ Some fault.at) }
+        ensures named { OnOk result (is_name text.now ≡ true) }
+        ensures fault { IfErr result (λ fault. BreaksName text.now fault.at) }
     {
         let text = text.as_bytes();
         if let Some(at) = find_fault(text) {
@@ -65,9 +65,11 @@ impl Name {
         &self.bytes[..self.len as usize]
     }
 
+    #[tactic(auto, using(crate::proofs::Laws::name_by_scan))]
     fn as_str(&self) -> &str
         ensures text { result.now ≡ self.now }
         ensures named { name_fault result.now ≡ None }
+        ensures rule { is_name result.now ≡ true }
     {
         match str::from_utf8(self.as_bytes()) {
             Ok(text) => text,
@@ -147,8 +149,8 @@ impl Namespace {
     pub fn parse(text: &str) -> Result<Namespace, BadName>
         ensures read { result ≡ name_of text.now }
         ensures text { IfOk result (λ name. name ≡ text.now) }
-        ensures named { OnOk result (name_fault text.now ≡ None) }
-        ensures fault { IfErr result (λ fault. name_fault text.now ≡ Some fault.at) }
+        ensures named { OnOk result (is_name text.now ≡ true) }
+        ensures fault { IfErr result (λ fault. BreaksName text.now fault.at) }
     {
         match Name::parse(text) {
             Ok(name) => Ok(Namespace { name }),
@@ -160,6 +162,7 @@ impl Namespace {
     pub fn as_str(&self) -> &str
         ensures text { result.now ≡ self.now }
         ensures named { name_fault result.now ≡ None }
+        ensures rule { is_name result.now ≡ true }
     {
         self.name.as_str()
     }
@@ -190,8 +193,8 @@ impl Bucket {
     pub fn parse(text: &str) -> Result<Bucket, BadName>
         ensures read { result ≡ name_of text.now }
         ensures text { IfOk result (λ name. name ≡ text.now) }
-        ensures named { OnOk result (name_fault text.now ≡ None) }
-        ensures fault { IfErr result (λ fault. name_fault text.now ≡ Some fault.at) }
+        ensures named { OnOk result (is_name text.now ≡ true) }
+        ensures fault { IfErr result (λ fault. BreaksName text.now fault.at) }
     {
         match Name::parse(text) {
             Ok(name) => Ok(Bucket { name }),
@@ -203,6 +206,7 @@ impl Bucket {
     pub fn as_str(&self) -> &str
         ensures text { result.now ≡ self.now }
         ensures named { name_fault result.now ≡ None }
+        ensures rule { is_name result.now ≡ true }
     {
         self.name.as_str()
     }
@@ -226,10 +230,10 @@ fn find_fault(text: &[u8]) -> Option<u32>
     if text.is_empty() { Some(0) } else { None }
 }
 
-#[tactic(auto, using(crate::proofs::Padding::padded_by))]
+#[tactic(auto, using(crate::proofs::Padding::in_64_bytes_by))]
 fn pad(text: &[u8]) -> [u8; 64]
     requires { length text.now ≤ 64 }
-    ensures { result ≡ padded text.now }
+    ensures { result ≡ in_64_bytes text.now }
 {
     let mut bytes = [0; 64];
     bytes[..text.len()].copy_from_slice(text);

@@ -2,7 +2,7 @@
 
 ghost use Rattle.std.specs.Prelude.{◌≡◌, ◌&&◌, nat_lt, None, Some, IfOk, IfErr, OnOk};
 ghost use Rattle.hex.specs.Hex.{is_hex_digit};
-ghost use Rattle.ddc_names.specs.Texts.{bytes_of, digits_fault};
+ghost use Rattle.ddc_names.specs.Texts.{bytes_of, digits_fault, AreDigits, BreaksDigits};
 ghost use Rattle.ddc_names.specs.Names.{key_of, key_text};
 
 use crate::{BadName, Bucket, IoHash, Namespace};
@@ -36,8 +36,8 @@ impl RefKey {
     pub fn parse(text: &str) -> Result<RefKey, BadName>
         ensures read { result ≡ key_of text.now }
         ensures key { IfOk result (λ key. key.0 ≡ bytes_of text.now) }
-        ensures digits { OnOk result (digits_fault text.now ≡ None) }
-        ensures fault { IfErr result (λ fault. digits_fault text.now ≡ Some fault.at) }
+        ensures digits { OnOk result (AreDigits text.now) }
+        ensures fault { IfErr result (λ fault. BreaksDigits text.now fault.at) }
     {
         if let Some(at) = find_fault(text.as_bytes()) {
             return Err(BadName { at });

@@ -8,7 +8,7 @@ moves_front all done rest n e =
     e ∙ ap (λ l. done ++ l) (sym (take-append-drop n rest)) ∙ sym (append_assoc done (take n rest) (drop n rest)) ∙ ap (λ l. (done ++ take n rest) ++ l) (sym (take_rest rest n))
 
 pub pieces-init : goal.pieces-init
-pieces-init g c = record { done = ([], refl, Appends-nil _); later = omega arith }
+pieces-init g c = record { done = ([], refl, Appends-nil _); same = refl }
 
 pub pieces-preserved : goal.pieces-preserved
 pieces-preserved g c =
@@ -17,5 +17,5 @@ pieces-preserved g c =
     let n = c.in-Ok.count in
     record {
       done = (done ++ take n rest, moves_front _ done rest n split, Appends-trans _ _ _ _ _ appended c.in-Ok.ensures.bytes);
-      later = omega arith;
+      same = c.pieces.invariant.same ∙ c.in-Ok.ensures.cause.same;
     }

@@ -1,6 +1,6 @@
 use Rattle.std.proofs.Common.{rules, ◌≡◌, true, false, subst}
 use Rattle.std.specs.Prelude.{IfSome, ◌⊎◌}
-use Rattle.ddc_link.specs.Causes.{Rose}
+use Rattle.ddc_names.specs.Causes.{Rose}
 use Rattle.ddc_disk.specs.Images.{devices_faults}
 use Rattle.ddc_model.specs.declared.rows.Limits.{Limits}
 use Rattle.ddc_book.specs.Opening.{OpenFaultOf}

@@ -24,7 +24,7 @@ pub returns-in_err-look-clause-time : goal.returns-in_err-look-clause-time
 returns-in_err-look-clause-time c = let d = c.args.self.now in call_continues (history d.log) d.in_order Look c.look.result (history c.look.new.log) c.look.ensures.after
 
 pub returns-in_err-look-clause-cause : goal.returns-in_err-look-clause-cause
-returns-in_err-look-clause-cause c = let d = c.args.self.now in fault_cause (history d.log) d.in_order Look _ (history c.look.new.log) c.in_err-look.ensures.after
+returns-in_err-look-clause-cause c = let d = c.args.self.now in fault_cause (history d.log) d.in_order Look _ (history c.look.new.log) c.from_residual.ensures.0 c.in_err-look.ensures.after
 
 pub returns-clause-calm : goal.returns-clause-calm
 returns-clause-calm c = let d = c.args.self.now in look_calm (history d.log) d.in_order c.look.result (history c.look.new.log) c.look.ensures.after
