@@ -8,7 +8,9 @@ use Rattle.std.specs.List.Sorted.{IsStrictlySortedBy}
 use Rattle.std.specs.BTreeMap.{is_at}
 use Rattle.std.specs.Option.{unwrap_or}
 use Rattle.ddc_names.specs.declared.hash.IoHash.{IoHash}
-use Rattle.ddc_names.specs.Orders.{io_hash_cmp, io_hash_total}
+use Rattle.std.specs.declared.cmp.Ordering.{Ordering}
+use Rattle.std.specs.declared.cmp.Ordering.TheVariants.{Less, Equal, Greater}
+use Rattle.ddc_names.specs.Orders.{io_hash_cmp, io_hash_total, name_cmp}
 use Rattle.cb_fields.specs.declared.links.Link.{Link}
 use Rattle.cb_fields.specs.declared.links.LinkKind.{LinkKind}
 use Rattle.cb_fields.specs.declared.links.LinkKind.TheVariants.{Object, Binary}
@@ -16,7 +18,7 @@ use Rattle.ddc_model.specs.declared.rows.Blob.{Blob}
 use Rattle.ddc_model.specs.declared.rows.BlobName.{BlobName}
 use Rattle.ddc_model.specs.State.{State}
 use Rattle.ddc_model.specs.Closure.{Links, with_links, object, LeadsTo, Walk, IsMissing, IsWhole, has_hash, AreNeeds}
-use Rattle.needs_resolver.specs.Walking.{Met, InWork, IsReachedFrom, IsMissingFrom, IsCovered, IsRead, IsKnown, IsWalk, IsMet, AreMet, IsObjectRead, AreRead, IsIdle, with_root, unmet, most_reads}
+use Rattle.needs_resolver.specs.Walking.{Met, InWork, IsReachedFrom, IsMissingFrom, IsCovered, IsRead, IsKnown, IsWalk, IsMet, AreMet, IsObjectRead, AreRead, IsIdle, with_root, one_unmet, unmet, most_reads}
 use Rattle.needs_resolver.proofs.Meeting.{covered_kept, in_pop, in_push, tied_itself, tied_same}
 
 abbrev Test : Type 0
@@ -314,20 +316,26 @@ module _ (base : Links) (root : IoHash) (old begun ended : Met) (idle : IsIdle b
   }
 
 -- how many objects a walk reads that has none to read yet
-most_unmet : (seen : Test) (es : List (BlobName × Blob)) → unmet seen es ≤ length es
-most_unmet seen [] = omega arith
-most_unmet seen (e ∷ es) = one (seen e.0.hash) _ _ (most_unmet seen es) where
-  one : (b : Bool) (n m : ℕ) → n ≤ m → cond (not b) 1 0 + n ≤ suc m
-  one true n m l = omega arith
-  one false n m l = omega arith
+pub at_most_one : (o : Ordering) (b : Bool) → one_unmet o b ≤ 1
+at_most_one Less b = omega arith
+at_most_one Equal true = omega arith
+at_most_one Equal false = omega arith
+at_most_one Greater b = omega arith
 
-most_at_first : (state : State) (met : Met) → met.work ≡ [] → most_reads state met ≤ len state.blobs
-most_at_first state met none =
+most_unmet : (space : List ℕ) (seen : Test) (es : List (BlobName × Blob)) → unmet space seen es ≤ length es
+most_unmet space seen [] = omega arith
+most_unmet space seen (e ∷ es) =
+    let here : one_unmet (name_cmp space e.0.space) (seen e.0.hash) ≤ 1 = at_most_one (name_cmp space e.0.space) (seen e.0.hash) in
+    let rest : unmet space seen es ≤ length es = most_unmet space seen es in
+    omega arith
+
+pub most_at_first : (state : State) (space : List ℕ) (met : Met) → met.work ≡ [] → most_reads state space met ≤ len state.blobs
+most_at_first state space met none =
     let unread : length met.work ≡ 0 = ap (λ (xs : List IoHash). length xs) none in
-    let most : unmet met.seen (entries state.blobs) ≤ length (entries state.blobs) = most_unmet met.seen (entries state.blobs) in
+    let most : unmet space met.seen (entries state.blobs) ≤ length (entries state.blobs) = most_unmet space met.seen (entries state.blobs) in
     let blobs : len state.blobs ≡ length (entries state.blobs) = len-entries state.blobs in
     omega arith
 
 -- how many objects are read from the beginning of a walk on
-pub reads_at_most : (state : State) (old begun : Met) (before after : ℕ) → old.work ≡ [] → most_reads state begun ≤ most_reads state old → after ≤ before + most_reads state begun → after ≤ before + len state.blobs
-reads_at_most state old begun before after none less counted = let first : most_reads state old ≤ len state.blobs = most_at_first state old none in omega arith
+pub reads_at_most : (state : State) (space : List ℕ) (old begun : Met) (before after : ℕ) → old.work ≡ [] → most_reads state space begun ≤ most_reads state space old → after ≤ before + most_reads state space begun → after ≤ before + len state.blobs
+reads_at_most state space old begun before after none less counted = let first : most_reads state space old ≤ len state.blobs = most_at_first state space old none in omega arith

@@ -4,7 +4,9 @@ use Rattle.std.specs.List.{Contains}
 use Rattle.std.specs.FinMap.{entries}
 use Rattle.std.specs.BTreeSet.{contains}
 use Rattle.std.specs.BTreeMap.{is_at}
-use Rattle.ddc_names.specs.Orders.{io_hash_cmp}
+use Rattle.std.specs.declared.cmp.Ordering.{Ordering}
+use Rattle.std.specs.declared.cmp.Ordering.TheVariants.{Less, Equal, Greater}
+use Rattle.ddc_names.specs.Orders.{io_hash_cmp, name_cmp}
 use Rattle.ddc_names.specs.declared.hash.IoHash.{IoHash}
 use Rattle.cb_fields.specs.declared.links.Link.{Link}
 use Rattle.cb_fields.specs.declared.links.LinkKind.TheVariants.{Binary}
@@ -98,11 +100,17 @@ pub record IsIdle (base : Links) (met : Met) : Type 0 where
 abbrev pub with_root : (IoHash → Bool) → IoHash → IoHash → Bool
 with_root seen root h = cond (is_at (io_hash_cmp root) h) true (seen h)
 
--- how many blobs have a hash that isn't met
-abbrev pub unmet : (IoHash → Bool) → List (BlobName × Blob) → ℕ
-unmet seen [] = 0
-unmet seen (e ∷ es) = cond (not (seen e.0.hash)) 1 0 + unmet seen es
+-- one for a blob that can still be met: it stands in this namespace and isn't met, or in a namespace after it
+abbrev pub one_unmet : Ordering → Bool → ℕ
+one_unmet Less met = 1
+one_unmet Equal met = cond (not met) 1 0
+one_unmet Greater met = 0
 
--- how many objects can still be read
-abbrev pub most_reads : State → Met → ℕ
-most_reads state met = unmet met.seen (entries state.blobs) + length met.work
+-- how many blobs of a namespace have a hash that isn't met, and how many blobs the namespaces after it have
+abbrev pub unmet : List ℕ → (IoHash → Bool) → List (BlobName × Blob) → ℕ
+unmet space seen [] = 0
+unmet space seen (e ∷ es) = one_unmet (name_cmp space e.0.space) (seen e.0.hash) + unmet space seen es
+
+-- how many objects can still be read, by a walk of this namespace and those of the namespaces after it
+abbrev pub most_reads : State → List ℕ → Met → ℕ
+most_reads state space met = unmet space met.seen (entries state.blobs) + length met.work

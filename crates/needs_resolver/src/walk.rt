@@ -53,7 +53,7 @@ impl Walk {
         node: Link,
     ) -> Result<(), NoMemory>
         ensures met { OnOk result (IsMet (links_in index.now.state space.now) node (met_of self.old) (met_of self.new)) }
-        ensures less { OnOk result (most_reads index.now.state (met_of self.new) ≤ most_reads index.now.state (met_of self.old)) }
+        ensures less { OnOk result (most_reads index.now.state space.now (met_of self.new) ≤ most_reads index.now.state space.now (met_of self.old)) }
     {
         if self.seen.contains(&node.hash) {
             return Ok(());
@@ -80,7 +80,7 @@ impl Walk {
         nodes: &[Link],
     ) -> Result<(), NoMemory>
         ensures met { OnOk result (AreMet (links_in index.now.state space.now) nodes.now (length nodes.now) (met_of self.old) (met_of self.new)) }
-        ensures less { OnOk result (most_reads index.now.state (met_of self.new) ≤ most_reads index.now.state (met_of self.old)) }
+        ensures less { OnOk result (most_reads index.now.state space.now (met_of self.new) ≤ most_reads index.now.state space.now (met_of self.old)) }
     {
         for node in nodes {
             self.meet(index, space, *node)?;
@@ -93,7 +93,7 @@ impl Walk {
         ensures same { index.new.state ≡ index.old.state }
         ensures counted { index.new.reads ≤ index.old.reads + 1 }
         ensures read { OnOk result (IsObjectRead (links_in index.old.state space.now) held (met_of self.old) (met_of self.new)) }
-        ensures less { OnOk result (most_reads index.old.state (met_of self.new) ≤ most_reads index.old.state (met_of self.old)) }
+        ensures less { OnOk result (most_reads index.old.state space.now (met_of self.new) ≤ most_reads index.old.state space.now (met_of self.old)) }
     {
         let counted = index.count_read();
         let links = index.links(space, &held, counted);
@@ -104,7 +104,8 @@ impl Walk {
     // Reads the objects that were met, and those that are met by that.
     pub(crate) fn read_all(&mut self, index: &mut Index, space: &Namespace) -> Result<(), NoMemory>
         ensures same { index.new.state ≡ index.old.state }
-        ensures counted { index.new.reads ≤ index.old.reads + most_reads index.old.state (met_of self.old) }
+        ensures counted { index.new.reads ≤ index.old.reads + most_reads index.old.state space.now (met_of self.old) }
+        ensures left { OnOk result (index.new.reads + most_reads index.old.state space.now (met_of self.new) ≤ index.old.reads + most_reads index.old.state space.now (met_of self.old)) }
         ensures read { OnOk result (AreRead (links_in index.old.state space.now) (met_of self.old) (met_of self.new)) }
         ensures done { OnOk result (self.new.work.items ≡ []) }
     {

@@ -5,13 +5,13 @@ use Rattle.needs_resolver.proofs.Reading.{no_keys, nothing_met, begins_known, be
 use Rattle.needs_resolver.proofs.missing.needs.Goals as goal
 
 pub returns-in_err-read_all-clause-each_blob_is_read_once_at_most : goal.returns-in_err-read_all-clause-each_blob_is_read_once_at_most
-returns-in_err-read_all-clause-each_blob_is_read_once_at_most c = reads_at_most c.args.index.now.state (met_of c.new-walk.result) (met_of c.meet.new.self) _ _ c.new-walk.ensures.work c.in_ok-meet.ensures.less c.in_err-read_all.ensures.counted
+returns-in_err-read_all-clause-each_blob_is_read_once_at_most c = reads_at_most c.args.index.now.state c.args.space.now (met_of c.new-walk.result) (met_of c.meet.new.self) _ _ c.new-walk.ensures.work c.in_ok-meet.ensures.less c.in_err-read_all.ensures.counted
 
 pub returns-in_err-needs-clause-each_blob_is_read_once_at_most : goal.returns-in_err-needs-clause-each_blob_is_read_once_at_most
-returns-in_err-needs-clause-each_blob_is_read_once_at_most c = reads_at_most c.args.index.now.state (met_of c.new-walk.result) (met_of c.meet.new.self) _ _ c.new-walk.ensures.work c.in_ok-meet.ensures.less c.in_ok-read_all.ensures.counted
+returns-in_err-needs-clause-each_blob_is_read_once_at_most c = reads_at_most c.args.index.now.state c.args.space.now (met_of c.new-walk.result) (met_of c.meet.new.self) _ _ c.new-walk.ensures.work c.in_ok-meet.ensures.less c.in_ok-read_all.ensures.counted
 
 pub returns-clause-each_blob_is_read_once_at_most : goal.returns-clause-each_blob_is_read_once_at_most
-returns-clause-each_blob_is_read_once_at_most c = reads_at_most c.args.index.now.state (met_of c.new-walk.result) (met_of c.meet.new.self) _ _ c.new-walk.ensures.work c.in_ok-meet.ensures.less c.in_ok-read_all.ensures.counted
+returns-clause-each_blob_is_read_once_at_most c = reads_at_most c.args.index.now.state c.args.space.now (met_of c.new-walk.result) (met_of c.meet.new.self) _ _ c.new-walk.ensures.work c.in_ok-meet.ensures.less c.in_ok-read_all.ensures.counted
 
 pub returns-clause-needs : goal.returns-clause-needs
 returns-clause-needs c =

@@ -6,5 +6,5 @@ use Rattle.needs_resolver.proofs.walk.Walk.meet_all.Given as goal
 abbrev pub invariant-loop-node : goal.invariant-loop-node
 invariant-loop-node l = record {
   met : AreMet (links_in l.index.state l.space) l.nodes l.node-index (met_of l.initial.self) (met_of l.self);
-  less : most_reads l.index.state (met_of l.self) ≤ most_reads l.index.state (met_of l.initial.self);
+  less : most_reads l.index.state l.space (met_of l.self) ≤ most_reads l.index.state l.space (met_of l.initial.self);
 }
