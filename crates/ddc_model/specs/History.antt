@@ -8,7 +8,7 @@ use Rattle.ddc_model.specs.declared.entry.Step.TheVariants.{Loaded, Change, Brok
 use Rattle.ddc_model.specs.declared.fault.StoreFault.{StoreFault}
 use Rattle.ddc_model.specs.declared.fault.StoreFault.TheVariants.{Broken, HistoryFull}
 use Rattle.ddc_model.specs.State.{State, empty_state}
-use Rattle.ddc_model.specs.Entries.{after, with_root}
+use Rattle.ddc_model.specs.Entries.{after, with_put_root}
 use Rattle.ddc_model.specs.Closure.{links_in, IsWhole}
 use Rattle.ddc_model.specs.Counts.{added_links, fresh_of}
 
@@ -32,12 +32,12 @@ pub record Past : Type 0 where
 abbrev pub none_yet : Past
 none_yet = record { entries = 0; links = 0 }
 
-abbrev pub with_entry : Past → Entry → Past
-with_entry past entry = record { entries = past.entries + 1; links = past.links + added_links (fresh_of entry) }
+abbrev pub one_entry_more : Past → Entry → Past
+one_entry_more past entry = record { entries = past.entries + 1; links = past.links + added_links (fresh_of entry) }
 
 abbrev pub past_after : Past → Step → Past
 past_after past (Loaded limits faults) = none_yet
-past_after past (Change entry) = with_entry past entry
+past_after past (Change entry) = one_entry_more past entry
 past_after past (Broke changed before now) = past
 
 abbrev pub past_of_all : Past → List Step → Past
@@ -61,7 +61,7 @@ abbrev pub IsLawful : State → Entry → Type 0
 IsLawful s (Space space ttl pin) = ⊤
 IsLawful s (Upload space blob hour) = ⊤
 IsLawful s (Repin space hash hour) = ⊤
-IsLawful s (Put name root fresh whole hour) = (whole ≡ true) ↔ IsWhole (links_in (with_root s name.space root fresh hour) name.space) root
+IsLawful s (Put name root fresh whole hour) = (whole ≡ true) ↔ IsWhole (links_in (with_put_root s name.space root fresh hour) name.space) root
 IsLawful s (Finalise name hash hour) = IsWhole (links_in s name.space) hash
 IsLawful s (Delete name hour) = ⊤
 IsLawful s (Touch name hour) = ⊤

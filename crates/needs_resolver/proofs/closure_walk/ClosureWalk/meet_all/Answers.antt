@@ -3,7 +3,7 @@ use Rattle.std.proofs.lemmas.List.{get_or_default}
 use Rattle.ddc_model.specs.Closure.{links_in}
 use Rattle.needs_resolver.specs.Walking.{met_of, most_reads}
 use Rattle.needs_resolver.proofs.Meeting.{one_more}
-use Rattle.needs_resolver.proofs.walk.Walk.meet_all.Goals as goal
+use Rattle.needs_resolver.proofs.closure_walk.ClosureWalk.meet_all.Goals as goal
 
 pub loop-node-preserved : goal.loop-node-preserved
 loop-node-preserved c =

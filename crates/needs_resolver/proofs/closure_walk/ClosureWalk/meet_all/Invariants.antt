@@ -1,7 +1,7 @@
 use Rattle.std.proofs.Common.{◌≤◌}
 use Rattle.ddc_model.specs.Closure.{links_in}
 use Rattle.needs_resolver.specs.Walking.{AreMet, met_of, most_reads}
-use Rattle.needs_resolver.proofs.walk.Walk.meet_all.Given as goal
+use Rattle.needs_resolver.proofs.closure_walk.ClosureWalk.meet_all.Given as goal
 
 abbrev pub invariant-loop-node : goal.invariant-loop-node
 invariant-loop-node l = record {

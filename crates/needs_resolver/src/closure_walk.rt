@@ -15,19 +15,19 @@ use std::collections::BTreeSet;
 // What a walk has met: the objects that are there, the hashes that aren't, and which of the objects are still to be
 // read.
 #[derive(Drop)]
-pub(crate) struct Walk {
+pub(crate) struct ClosureWalk {
     seen: BTreeSet<IoHash>,
     absent: BTreeSet<IoHash>,
     work: Vec<IoHash>,
 }
 
-impl Walk {
-    pub(crate) fn new(alloc: Global) -> Walk
+impl ClosureWalk {
+    pub(crate) fn new(alloc: Global) -> ClosureWalk
         ensures seen { result.seen.keys ≡ [] }
         ensures absent { result.absent.keys ≡ [] }
         ensures work { result.work.items ≡ [] }
     {
-        Walk {
+        ClosureWalk {
             seen: BTreeSet::new(alloc),
             absent: BTreeSet::new(alloc),
             work: Vec::new(alloc),
@@ -35,12 +35,12 @@ impl Walk {
     }
 
     // A walk that has met this object, and needn't read it.
-    pub(crate) fn with_root(alloc: Global, root: IoHash) -> Result<Walk, NoMemory>
+    pub(crate) fn with_root(alloc: Global, root: IoHash) -> Result<ClosureWalk, NoMemory>
         ensures seen { IfOk result (λ walk. walk.seen.keys ≡ root ∷ []) }
         ensures absent { IfOk result (λ walk. walk.absent.keys ≡ []) }
         ensures work { IfOk result (λ walk. walk.work.items ≡ []) }
     {
-        let mut walk = Walk::new(alloc);
+        let mut walk = ClosureWalk::new(alloc);
         walk.seen.insert(root)?;
         Ok(walk)
     }

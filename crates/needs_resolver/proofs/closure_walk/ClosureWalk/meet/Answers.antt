@@ -7,7 +7,7 @@ use Rattle.ddc_model.specs.State.{blob_at, blob_name}
 use Rattle.ddc_model.specs.Closure.{links_in}
 use Rattle.needs_resolver.specs.Walking.{Met, IsMet, met_of, unmet}
 use Rattle.needs_resolver.proofs.Meeting.{no_links, has_links, is_there, meets_absent, meets_object, unmet_less}
-use Rattle.needs_resolver.proofs.walk.Walk.meet.Goals as goal
+use Rattle.needs_resolver.proofs.closure_walk.ClosureWalk.meet.Goals as goal
 
 pub returns-in_ok-insert-in-None-clause-met : goal.returns-in_ok-insert-in-None-clause-met
 returns-in_ok-insert-in-None-clause-met c =

@@ -4,7 +4,7 @@ use Rattle.ddc_model.specs.State.{State}
 use Rattle.ddc_model.specs.Closure.{links_in}
 use Rattle.needs_resolver.specs.Walking.{Met, IsObjectRead, met_of, most_reads}
 use Rattle.needs_resolver.proofs.Reading.{read_more}
-use Rattle.needs_resolver.proofs.walk.Walk.read_all.Goals as goal
+use Rattle.needs_resolver.proofs.closure_walk.ClosureWalk.read_all.Goals as goal
 
 pub loop-held-preserved : goal.loop-held-preserved
 loop-held-preserved c =

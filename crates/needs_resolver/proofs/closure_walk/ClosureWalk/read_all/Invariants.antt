@@ -1,7 +1,7 @@
 use Rattle.std.proofs.Common.{◌≡◌, ◌+◌, ◌≤◌}
 use Rattle.ddc_model.specs.Closure.{links_in}
 use Rattle.needs_resolver.specs.Walking.{AreRead, met_of, most_reads}
-use Rattle.needs_resolver.proofs.walk.Walk.read_all.Given as goal
+use Rattle.needs_resolver.proofs.closure_walk.ClosureWalk.read_all.Given as goal
 
 abbrev pub invariant-loop-held : goal.invariant-loop-held
 invariant-loop-held l = record {
