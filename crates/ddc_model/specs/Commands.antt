@@ -7,7 +7,7 @@ use Rattle.ref_store.specs.declared.slot.Slot.{Slot}
 use Rattle.ddc_model.specs.declared.rows.Blob.{Blob}
 use Rattle.ddc_model.specs.declared.entry.Stored.{Stored}
 use Rattle.ddc_model.specs.declared.entry.Entry.{Entry}
-use Rattle.ddc_model.specs.declared.entry.Entry.TheVariants.{Space, Upload, Repin, Put, Finalise, Delete, Touch}
+use Rattle.ddc_model.specs.declared.entry.Entry.TheVariants.{Space, Upload, Repin, Put, Finalise, Touch}
 use Rattle.ddc_model.specs.declared.fault.StoreFault.{StoreFault}
 use Rattle.ddc_model.specs.declared.fault.StoreFault.TheVariants.{UnknownSpace, NotFound, NotFinalised, NotPending}
 use Rattle.ddc_model.specs.Keys.{blob_cmp}
@@ -165,13 +165,9 @@ kept_where all space (Some blob) bytes = insert all (blob_name space blob.hash) 
 kept_where all space None bytes = all
 
 abbrev pub kept : FinMap blob_cmp (List ℕ) → Entry → List ℕ → FinMap blob_cmp (List ℕ)
-kept all (Space space ttl pin) bytes = all
 kept all (Upload space blob hour) bytes = kept_where all space (Some blob) bytes
-kept all (Repin space hash hour) bytes = all
 kept all (Put name root fresh whole hour) bytes = kept_where all name.space fresh bytes
-kept all (Finalise name hash hour) bytes = all
-kept all (Delete name hour) bytes = all
-kept all (Touch name hour) bytes = all
+kept all entry bytes = all
 
 -- the state and the bytes after the entry of a command with these bytes, where it makes one
 abbrev pub changed : Cache → List ℕ → Option Entry → Cache
