@@ -8,8 +8,6 @@
 
 mod closure_walk;
 mod missing;
-#[cfg(test)]
-mod plain;
 mod sound;
 #[cfg(test)]
 mod tests;
