@@ -4,7 +4,7 @@ use Rattle.ddc_model.specs.State.{State}
 use Rattle.ddc_model.specs.Closure.{links_in}
 use Rattle.needs_resolver.specs.Walking.{AreMet, IsObjectRead, met_of}
 use Rattle.needs_resolver.proofs.Reading.{read_any}
-use Rattle.needs_resolver.proofs.walk.Walk.read.Goals as goal
+use Rattle.needs_resolver.proofs.closure_walk.ClosureWalk.read.Goals as goal
 
 pub returns-clause-read : goal.returns-clause-read
 returns-clause-read c =

@@ -15,19 +15,19 @@ use std::collections::BTreeSet;
 // What a walk has met: the objects that are there, the hashes that aren't, and which of the objects are still to be
 // read.
 #[derive(Drop)]
-pub(crate) struct Walk {
+pub(crate) struct ClosureWalk {
     seen: BTreeSet<IoHash>,
     absent: BTreeSet<IoHash>,
     work: Vec<IoHash>,
 }
 
-impl Walk {
-    pub(crate) fn new(alloc: Global) -> Walk
+impl ClosureWalk {
+    pub(crate) fn new(alloc: Global) -> ClosureWalk
         ensures seen { result.seen.keys ≡ [] }
         ensures absent { result.absent.keys ≡ [] }
         ensures work { result.work.items ≡ [] }
     {
-        Walk {
+        ClosureWalk {
             seen: BTreeSet::new(alloc),
             absent: BTreeSet::new(alloc),
             work: Vec::new(alloc),
@@ -35,12 +35,12 @@ impl Walk {
     }
 
     // A walk that has met this object, and needn't read it.
-    pub(crate) fn with_root(alloc: Global, root: IoHash) -> Result<Walk, NoMemory>
+    pub(crate) fn with_root(alloc: Global, root: IoHash) -> Result<ClosureWalk, NoMemory>
         ensures seen { IfOk result (λ walk. walk.seen.keys ≡ root ∷ []) }
         ensures absent { IfOk result (λ walk. walk.absent.keys ≡ []) }
         ensures work { IfOk result (λ walk. walk.work.items ≡ []) }
     {
-        let mut walk = Walk::new(alloc);
+        let mut walk = ClosureWalk::new(alloc);
         walk.seen.insert(root)?;
         Ok(walk)
     }
@@ -53,7 +53,7 @@ impl Walk {
         node: Link,
     ) -> Result<(), NoMemory>
         ensures met { OnOk result (IsMet (links_in index.now.state space.now) node (met_of self.old) (met_of self.new)) }
-        ensures less { OnOk result (most_reads index.now.state (met_of self.new) ≤ most_reads index.now.state (met_of self.old)) }
+        ensures less { OnOk result (most_reads index.now.state space.now (met_of self.new) ≤ most_reads index.now.state space.now (met_of self.old)) }
     {
         if self.seen.contains(&node.hash) {
             return Ok(());
@@ -80,7 +80,7 @@ impl Walk {
         nodes: &[Link],
     ) -> Result<(), NoMemory>
         ensures met { OnOk result (AreMet (links_in index.now.state space.now) nodes.now (length nodes.now) (met_of self.old) (met_of self.new)) }
-        ensures less { OnOk result (most_reads index.now.state (met_of self.new) ≤ most_reads index.now.state (met_of self.old)) }
+        ensures less { OnOk result (most_reads index.now.state space.now (met_of self.new) ≤ most_reads index.now.state space.now (met_of self.old)) }
     {
         for node in nodes {
             self.meet(index, space, *node)?;
@@ -93,7 +93,7 @@ impl Walk {
         ensures same { index.new.state ≡ index.old.state }
         ensures counted { index.new.reads ≤ index.old.reads + 1 }
         ensures read { OnOk result (IsObjectRead (links_in index.old.state space.now) held (met_of self.old) (met_of self.new)) }
-        ensures less { OnOk result (most_reads index.old.state (met_of self.new) ≤ most_reads index.old.state (met_of self.old)) }
+        ensures less { OnOk result (most_reads index.old.state space.now (met_of self.new) ≤ most_reads index.old.state space.now (met_of self.old)) }
     {
         let counted = index.count_read();
         let links = index.links(space, &held, counted);
@@ -104,7 +104,8 @@ impl Walk {
     // Reads the objects that were met, and those that are met by that.
     pub(crate) fn read_all(&mut self, index: &mut Index, space: &Namespace) -> Result<(), NoMemory>
         ensures same { index.new.state ≡ index.old.state }
-        ensures counted { index.new.reads ≤ index.old.reads + most_reads index.old.state (met_of self.old) }
+        ensures counted { index.new.reads ≤ index.old.reads + most_reads index.old.state space.now (met_of self.old) }
+        ensures left { OnOk result (index.new.reads + most_reads index.old.state space.now (met_of self.new) ≤ index.old.reads + most_reads index.old.state space.now (met_of self.old)) }
         ensures read { OnOk result (AreRead (links_in index.old.state space.now) (met_of self.old) (met_of self.new)) }
         ensures done { OnOk result (self.new.work.items ≡ []) }
     {

@@ -7,7 +7,7 @@ use Rattle.ddc_model.specs.State.{blob_at, blob_name}
 use Rattle.ddc_model.specs.Closure.{links_in}
 use Rattle.needs_resolver.specs.Walking.{Met, IsMet, met_of, unmet}
 use Rattle.needs_resolver.proofs.Meeting.{no_links, has_links, is_there, meets_absent, meets_object, unmet_less}
-use Rattle.needs_resolver.proofs.walk.Walk.meet.Goals as goal
+use Rattle.needs_resolver.proofs.closure_walk.ClosureWalk.meet.Goals as goal
 
 pub returns-in_ok-insert-in-None-clause-met : goal.returns-in_ok-insert-in-None-clause-met
 returns-in_ok-insert-in-None-clause-met c =
@@ -24,7 +24,7 @@ returns-in_ok-push-in-Object-clause-met c =
 pub returns-in_ok-push-in-Object-clause-less : goal.returns-in_ok-push-in-Object-clause-less
 returns-in_ok-push-in-Object-clause-less c =
     let blobs = c.args.index.now.state.blobs in
-    let fewer : unmet (contains io_hash_cmp c.insert-in-Object.new.self) (map.entries blobs) + 1 ≤ unmet (contains io_hash_cmp c.args.self.now.seen) (map.entries blobs) =
+    let fewer : unmet c.args.space.now (contains io_hash_cmp c.insert-in-Object.new.self) (map.entries blobs) + 1 ≤ unmet c.args.space.now (contains io_hash_cmp c.args.self.now.seen) (map.entries blobs) =
     unmet_less (map.entries blobs) c.args.space.now c.args.node.hash (contains io_hash_cmp c.args.self.now.seen) (contains io_hash_cmp c.insert-in-Object.new.self) c.in_ok-insert-in-Object.ensures.updates.0 (sym c.if-contains.ensures)
     (ap is_some (sym (map.get-entries blobs (blob_name c.args.space.now c.args.node.hash))) ∙ is_there (blob_at c.args.index.now.state c.args.space.now c.args.node.hash) _ c.in-Some.ensures) in
     let longer : length c.push.new.self.items ≡ length c.args.self.now.work.items + 1 = ap (λ (xs : List IoHash). length xs) c.in_ok-push-in-Object.ensures.items ∙ length-append c.args.self.now.work.items (c.args.node.hash ∷ []) in
