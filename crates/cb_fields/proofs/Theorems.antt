@@ -1,11 +1,10 @@
--- What the definitions say together.
-use Rattle.std.specs.Prelude.{◌≡◌, ℕ, ◌≤◌, ◌<◌, ◌^◌, ◌⊎◌, List, [], ◌++◌, length, take, Option, Some}
-use Rattle.ddc_names.specs.declared.hash.IoHash.{IoHash}
+-- What the definitions say together. The first of them are contracts of the functions in laws.rt.
+use Rattle.std.specs.Prelude.{◌≡◌, ℕ, ◌≤◌, List, [], ◌++◌, length, take, Option, Some}
 use Rattle.cb_fields.specs.declared.links.Link.{Link}
 use Rattle.cb_fields.specs.Varuint.{IsVaruint, varuint_at}
-use Rattle.cb_fields.specs.Language.{Field, Spells, IsObject, IsNoObject, HasLinks}
+use Rattle.cb_fields.specs.Language.{Field, Spells, IsObject, HasLinks}
 use Rattle.cb_fields.specs.Fault.{HasHeader, FaultAt}
-use Rattle.cb_fields.specs.Needs.{AreHashes, needs_object}
+use Rattle.cb_fields.specs.Laws.{ObjectOrFault, FaultIsNoObject, OneObject, OneFaultPlace, FaultLiesWithin, NeedsIsObject, NeedsTellsHashes}
 use Rattle.cb_fields.proofs.Front.{varuint_read}
 use Rattle.cb_fields.proofs.Found.{varuint_found}
 use Rattle.cb_fields.proofs.Unique.{has_header}
@@ -22,23 +21,23 @@ pub read_is_spelled : (bytes : List ℕ) (found : ℕ × ℕ) → varuint_at byt
 read_is_spelled = varuint_found
 
 -- any bytes are an object or have a first fault
-pub object_or_fault : (bytes : List ℕ) → ((links : List Link) × IsObject bytes links) ⊎ ((at : ℕ) × FaultAt bytes at)
+pub object_or_fault : ObjectOrFault
 object_or_fault = decided
 
 -- and not both
-pub fault_is_no_object : (bytes : List ℕ) (at : ℕ) → FaultAt bytes at → IsNoObject bytes
+pub fault_is_no_object : FaultIsNoObject
 fault_is_no_object = fault_no_object
 
 -- an object has one list of links
-pub one_object : (bytes : List ℕ) (links others : List Link) → IsObject bytes links → IsObject bytes others → links ≡ others
+pub one_object : OneObject
 one_object = object_once
 
 -- the first fault has one place
-pub one_fault : (bytes : List ℕ) (at other : ℕ) → FaultAt bytes at → FaultAt bytes other → at ≡ other
+pub one_fault : OneFaultPlace
 one_fault = fault_once
 
 -- and lies in the bytes or at their end
-pub fault_lies_within : (bytes : List ℕ) (at : ℕ) → FaultAt bytes at → at ≤ length bytes
+pub fault_lies_within : FaultLiesWithin
 fault_lies_within = fault_in_bytes
 
 -- a refused header has no continuation: where a field begins, its own header stands, whatever follows the field
@@ -56,10 +55,9 @@ pub one_list_of_links : (bytes : List ℕ) (rows others : List Link) → HasLink
 one_list_of_links = links_once
 
 -- what is written for needs is an object without links
-pub needs_is_object : (hashes : List IoHash) → AreHashes hashes → length (needs_object hashes) < 2 ^ 64 → IsObject (needs_object hashes) []
+pub needs_is_object : NeedsIsObject
 needs_is_object = needs_are_object
 
 -- and tells the hashes in their order
-pub needs_tells_hashes : (hashes others : List IoHash) → AreHashes hashes → AreHashes others → length (needs_object hashes) < 2 ^ 64 → length (needs_object others) < 2 ^ 64
-    → needs_object hashes ≡ needs_object others → hashes ≡ others
+pub needs_tells_hashes : NeedsTellsHashes
 needs_tells_hashes = needs_told

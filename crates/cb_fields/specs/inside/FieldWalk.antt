@@ -4,11 +4,11 @@ use Rattle.std.specs.List.{slice_range}
 use Rattle.ddc_names.specs.declared.rows.NoMemory.{NoMemory}
 use Rattle.cb_fields.specs.declared.links.Link.{Link}
 use Rattle.cb_fields.specs.declared.header.Contents.{Contents}
-use Rattle.cb_fields.specs.declared.walk.Open.{Open}
-use Rattle.cb_fields.specs.declared.walk.Walk.{Walk}
-use Rattle.cb_fields.specs.declared.walk.Step.{Step}
-use Rattle.cb_fields.specs.declared.walk.Step.TheVariants.{Moved, Met, Complete, Broken}
-use Rattle.cb_fields.specs.Form.{counted}
+use Rattle.cb_fields.specs.declared.field_walk.Open.{Open}
+use Rattle.cb_fields.specs.declared.field_walk.FieldWalk.{FieldWalk}
+use Rattle.cb_fields.specs.declared.field_walk.Step.{Step}
+use Rattle.cb_fields.specs.declared.field_walk.Step.TheVariants.{Moved, Met, Complete, Broken}
+use Rattle.cb_fields.specs.Shape.{counted}
 use Rattle.cb_fields.specs.Language.{Whole, Spells}
 use Rattle.cb_fields.specs.Fault.{FirstFault}
 
@@ -34,27 +34,27 @@ abbrev pub Nested : ℕ → List Open → ℕ → Type 0
 Nested at [] end = at ≤ end
 Nested at (open_one ∷ outer) end = (at ≤ open_one.end) × Nested open_one.end outer end
 
-pub record InBounds (bytes : List ℕ) (walk : Walk) : Type 0 where
+pub record InBounds (bytes : List ℕ) (walk : FieldWalk) : Type 0 where
   pub before : walk.at ≤ walk.inmost.end
   pub fits : walk.inmost.end ≤ length bytes
   pub nested : Nested walk.inmost.end (reverse walk.outer.items) (length bytes)
 
 -- with the links before the place, whatever comes of the inmost container and then of those around it comes of the whole
-abbrev pub Carries : List ℕ → Walk → List Link → Type 0
+abbrev pub Carries : List ℕ → FieldWalk → List Link → Type 0
 Carries bytes walk links = (mid o : Outcome) → Comes walk.inmost.contents (slice_range bytes walk.at walk.inmost.end) walk.at links mid
     → Then bytes (reverse walk.outer.items) walk.inmost.end mid o → Comes (counted 1) bytes 0 [] o
 
 -- falls with each step: a container is opened by a byte at least
-abbrev pub ahead : List ℕ → Walk → ℕ
+abbrev pub ahead : List ℕ → FieldWalk → ℕ
 ahead bytes walk = 2 * (length bytes - walk.at) + length walk.outer.items
 
 -- a step keeps the bounds, goes on, and carries the links that it meets
-pub record StepsOn (bytes : List ℕ) (old new : Walk) (met : List Link) : Type 0 where
+pub record StepsOn (bytes : List ℕ) (old new : FieldWalk) (met : List Link) : Type 0 where
   pub bounds : InBounds bytes new
   pub smaller : ahead bytes new < ahead bytes old
   pub carries : (links : List Link) → Carries bytes old links → Carries bytes new (links ++ met)
 
-abbrev pub Advances : List ℕ → Walk → Walk → Result Step NoMemory → Type 0
+abbrev pub Advances : List ℕ → FieldWalk → FieldWalk → Result Step NoMemory → Type 0
 Advances bytes old new (Ok Moved) = StepsOn bytes old new []
 Advances bytes old new (Ok (Met link)) = StepsOn bytes old new (link ∷ [])
 Advances bytes old new (Ok Complete) = (links : List Link) → Carries bytes old links → Comes (counted 1) bytes 0 [] (Cut links)

@@ -1,13 +1,13 @@
 -- The codes of fields, and what their payloads are made of.
 use Rattle.std.specs.Prelude.{ℕ, ◌-◌, ◌%◌, Bool, true, false, ◌||◌, ◌==◌, Option, Some, None, if◌then◌else◌}
 use Rattle.cb_fields.specs.declared.links.LinkKind.TheVariants.{Object, Binary}
-use Rattle.cb_fields.specs.declared.form.Form.{Form}
-use Rattle.cb_fields.specs.declared.form.Form.TheVariants.{Refused, Fixed, Attachment, Number, Sized, Fields, UniformFields, Array, UniformArray}
+use Rattle.cb_fields.specs.declared.shape.Shape.{Shape}
+use Rattle.cb_fields.specs.declared.shape.Shape.TheVariants.{Refused, Fixed, Attachment, Number, Sized, Fields, UniformFields, Array, UniformArray}
 use Rattle.cb_fields.specs.declared.header.Contents.{Contents}
 
 -- the payload of a code (a type byte without flag 80; from 40 on it has flag 40, which is never stored)
-unfoldable pub form : ℕ → Form
-form code =
+unfoldable pub shape : ℕ → Shape
+shape code =
     if code == 0x02 then Fields else
     if code == 0x03 then UniformFields else
     if code == 0x04 then Array else
@@ -31,13 +31,13 @@ form code =
     if code == 0x11 then Fixed 16 else
     if code == 0x14 then Fixed 12 else Refused
 
-abbrev pub is_known : Form → Bool
+abbrev pub is_known : Shape → Bool
 is_known Refused = false
 is_known other = true
 
 -- may stand as a type byte
 unfoldable pub is_allowed : ℕ → Bool
-is_allowed t = is_known (form (t % 0x80))
+is_allowed t = is_known (shape (t % 0x80))
 
 -- an empty payload without a name: a field of a uniform container of this type byte has no bytes
 abbrev pub is_void : ℕ → Bool
@@ -47,8 +47,8 @@ is_void t = (t == 0x01) || ((t == 0x0c) || (t == 0x0d))
 abbrev pub any_fields : Contents
 any_fields = record { type_byte = None; count = None }
 
-abbrev pub nothing : Contents
-nothing = record { type_byte = None; count = Some 0 }
+abbrev pub no_fields : Contents
+no_fields = record { type_byte = None; count = Some 0 }
 
 -- so many fields with a type byte each
 abbrev pub counted : ℕ → Contents
@@ -56,7 +56,7 @@ counted n = record { type_byte = None; count = Some n }
 
 -- fields of the one type byte t without it; where such fields have no bytes, nothing, whatever their count
 unfoldable pub rests : ℕ → Option ℕ → Contents
-rests t count = if is_void t then nothing else record { type_byte = Some t; count = count }
+rests t count = if is_void t then no_fields else record { type_byte = Some t; count = count }
 
 -- may end here
 abbrev pub may_end : Option ℕ → Bool

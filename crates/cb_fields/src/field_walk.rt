@@ -1,8 +1,8 @@
 //! The walk over the fields of an object from left to right, with the containers that are open.
 
 ghost use Rattle.std.specs.Prelude.{◌≡◌, [], length};
-ghost use Rattle.cb_fields.specs.Language.{link};
-ghost use Rattle.cb_fields.specs.Walk.{InBounds, Carries, Advances};
+ghost use Rattle.cb_fields.specs.Language.{attached_link};
+ghost use Rattle.cb_fields.specs.inside.FieldWalk.{InBounds, Carries, Advances};
 
 use crate::header::{Contents, Header, header_of};
 use crate::links::{Link, LinkKind};
@@ -20,7 +20,7 @@ pub struct Open {
 
 /// Where a walk stands.
 #[derive(Drop)]
-pub struct Walk {
+pub struct FieldWalk {
     /// The containers around the inmost one, the outmost first.
     pub outer: Vec<Open>,
     /// The inmost container.
@@ -44,7 +44,7 @@ pub enum Step {
 // The link whose hash is these 20 bytes.
 fn link_of(kind: LinkKind, bytes: &[u8]) -> Link
     requires { length bytes.now ≡ 20 }
-    ensures { result ≡ link kind bytes.now }
+    ensures { result ≡ attached_link kind bytes.now }
 {
     let mut hash = [0; 20];
     hash.copy_from_slice(bytes);
@@ -54,13 +54,13 @@ fn link_of(kind: LinkKind, bytes: &[u8]) -> Link
     }
 }
 
-impl Walk {
+impl FieldWalk {
     /// A walk that stands before one field, all of the bytes.
-    pub fn new(alloc: Global, bytes: &[u8]) -> Walk
+    pub fn new(alloc: Global, bytes: &[u8]) -> FieldWalk
         ensures bounds { InBounds bytes.now result }
         ensures carries { Carries bytes.now result [] }
     {
-        Walk {
+        FieldWalk {
             outer: Vec::new(alloc),
             inmost: Open {
                 contents: Contents {

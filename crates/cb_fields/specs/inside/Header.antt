@@ -1,12 +1,12 @@
 -- What stands at the front of the bytes that are left of a container, as it is computed.
 use Rattle.std.specs.Prelude.{◌≡◌, ℕ, ◌+◌, ◌-◌, ◌%◌, ◌<◌, ◌≤◌, ◌==◌, List, [], ◌∷◌, length, take, drop, Option, Some, None, if◌then◌else◌, nat_lt}
 use Rattle.cb_fields.specs.Varuint.{varuint_at}
-use Rattle.cb_fields.specs.declared.form.Form.{Form}
-use Rattle.cb_fields.specs.declared.form.Form.TheVariants.{Refused, Fixed, Attachment, Number, Sized, Fields, UniformFields, Array, UniformArray}
+use Rattle.cb_fields.specs.declared.shape.Shape.{Shape}
+use Rattle.cb_fields.specs.declared.shape.Shape.TheVariants.{Refused, Fixed, Attachment, Number, Sized, Fields, UniformFields, Array, UniformArray}
 use Rattle.cb_fields.specs.declared.header.Contents.{Contents}
 use Rattle.cb_fields.specs.declared.header.Header.{Header}
 use Rattle.cb_fields.specs.declared.header.Header.TheVariants.{End, Bad, Plain, Link, Container}
-use Rattle.cb_fields.specs.Form.{form, is_allowed, any_fields, nothing, counted, rests, may_end, is_full}
+use Rattle.cb_fields.specs.Shape.{shape, is_allowed, any_fields, no_fields, counted, rests, may_end, is_full}
 
 -- a size and that many bytes: how many bytes spell the size, and the size
 abbrev pub sized_by : List ℕ → Option (ℕ × ℕ) → Option (ℕ × ℕ)
@@ -18,19 +18,17 @@ sized bs = sized_by bs (varuint_at bs)
 
 -- how many bytes it has before a container's contents, or all of it
 abbrev pub begin : Header → ℕ
-begin End = 0
-begin Bad = 0
 begin (Plain n) = n
 begin (Link kind n) = n
 begin (Container before size contents) = before
+begin other = 0
 
 -- how many bytes it takes
 abbrev pub extent : Header → ℕ
-extent End = 0
-extent Bad = 0
 extent (Plain n) = n
 extent (Link kind n) = n
 extent (Container before size contents) = before + size
+extent other = 0
 
 -- in n bytes it takes some, and a link has its hash
 abbrev pub Moves : ℕ → Header → Type 0
@@ -41,12 +39,9 @@ Moves n (Link kind k) = (20 ≤ k) × (k ≤ n)
 Moves n (Container before size contents) = (0 < before) × (before + size ≤ n)
 
 -- a link has its hash
-abbrev pub Holds : Header → Type 0
-Holds End = Unit {0}
-Holds Bad = Unit {0}
-Holds (Plain k) = Unit {0}
-Holds (Link kind k) = 20 ≤ k
-Holds (Container before size contents) = Unit {0}
+abbrev pub HasLinkHash : Header → Type 0
+HasLinkHash (Link kind k) = 20 ≤ k
+HasLinkHash other = Unit {0}
 
 -- the same after k more bytes
 abbrev pub shifted : ℕ → Header → Header
@@ -58,7 +53,7 @@ shifted k (Container before size contents) = Container (k + before) size content
 
 -- the inside of a uniform container, after its count
 unfoldable pub uniform_inside : Option ℕ → List ℕ → Header
-uniform_inside count [] = if may_end count then Container 0 0 nothing else Bad
+uniform_inside count [] = if may_end count then Container 0 0 no_fields else Bad
 uniform_inside count (t ∷ bs) = if is_allowed t then Container 1 (length bs) (rests t count) else Bad
 
 abbrev pub counted_by : List ℕ → Option (ℕ × ℕ) → Header
@@ -70,7 +65,7 @@ uniform_counted_by bs None = Bad
 uniform_counted_by bs (Some count) = shifted count.1 (uniform_inside (Some count.0) (drop count.1 bs))
 
 -- the bytes that a container's size counts
-unfoldable pub inside : Form → List ℕ → Header
+unfoldable pub inside : Shape → List ℕ → Header
 inside Fields bs = Container 0 (length bs) any_fields
 inside UniformFields bs = uniform_inside None bs
 inside Array bs = counted_by bs (varuint_at bs)
@@ -85,11 +80,11 @@ abbrev pub sized_header : Option (ℕ × ℕ) → Header
 sized_header None = Bad
 sized_header (Some s) = Plain (s.0 + s.1)
 
-abbrev pub container_header : Form → List ℕ → Option (ℕ × ℕ) → Header
-container_header form bs None = Bad
-container_header form bs (Some s) = shifted s.0 (inside form (take s.1 (drop s.0 bs)))
+abbrev pub container_header : Shape → List ℕ → Option (ℕ × ℕ) → Header
+container_header shape bs None = Bad
+container_header shape bs (Some s) = shifted s.0 (inside shape (take s.1 (drop s.0 bs)))
 
-unfoldable pub payload : Form → List ℕ → Header
+unfoldable pub payload : Shape → List ℕ → Header
 payload Refused bs = Bad
 payload (Fixed n) bs = if nat_lt (length bs) n then Bad else Plain n
 payload (Attachment kind) bs = if nat_lt (length bs) 20 then Bad else Link kind 20
@@ -107,7 +102,7 @@ name_length t bs = if nat_lt t 0x80 then Some 0 else name_by (sized bs)
 
 abbrev pub rest_by : ℕ → List ℕ → Option ℕ → Header
 rest_by t bs None = Bad
-rest_by t bs (Some k) = shifted k (payload (form (t % 0x80)) (drop k bs))
+rest_by t bs (Some k) = shifted k (payload (shape (t % 0x80)) (drop k bs))
 
 -- the name and the payload of the type byte t
 unfoldable pub rest_header : ℕ → List ℕ → Header
@@ -122,6 +117,6 @@ field_header (Some t) bs = lasting (rest_header t bs)
 field_header None [] = Bad
 field_header None (t ∷ bs) = shifted 1 (rest_header t bs)
 
-unfoldable pub header : Contents → List ℕ → Header
-header contents [] = if may_end contents.count then End else Bad
-header contents (b ∷ bs) = if is_full contents.count then Bad else field_header contents.type_byte (b ∷ bs)
+unfoldable pub next_header : Contents → List ℕ → Header
+next_header contents [] = if may_end contents.count then End else Bad
+next_header contents (b ∷ bs) = if is_full contents.count then Bad else field_header contents.type_byte (b ∷ bs)

@@ -1,7 +1,7 @@
 use Rattle.std.proofs.Common.{rules, ◌≡◌, [], refl, arith}
 use Rattle.std.proofs.lemmas.Grind.{common_steps}
 use Rattle.cb_fields.proofs.Carry.{plain_steps, link_steps, container_steps, end_steps, complete_comes, broken_comes}
-use Rattle.cb_fields.proofs.walk.Walk.advance.Goals as goal
+use Rattle.cb_fields.proofs.field_walk.FieldWalk.advance.Goals as goal
 
 pub returns-in-None : goal.returns-in-None
 returns-in-None c =
