@@ -8,7 +8,7 @@ ghost use Rattle.ref_store.specs.Pages.{row_of, expired_spot};
 ghost use Rattle.std.specs.List.{slice_get};
 ghost use Rattle.std.specs.declared.ops.Bound.TheVariants.{Unbounded};
 ghost use Rattle.std.specs.BTreeMap.Range.{entries_between};
-ghost use Rattle.ref_store.specs.Places.{place_cmp, named, run_after, at_place};
+ghost use Rattle.ref_store.specs.inside.Places.{place_cmp, by_names, run_after, at_place};
 
 use crate::place::Place;
 use crate::{RefRow, Slot};
@@ -80,7 +80,7 @@ pub(crate) fn first_from(
     slots: &BTreeMap<Place, Slot>,
     start: Bound<Place>,
 ) -> Option<(RefName, Slot)>
-    ensures first { result ≡ slice_get (named (entries_between place_cmp start Unbounded slots.now.entries)) 0 }
+    ensures first { result ≡ slice_get (by_names (entries_between place_cmp start Unbounded slots.now.entries)) 0 }
     ensures ordered { IsStrictlySortedBy place_cmp (keys_of slots.now.entries) }
 {
     for (place, slot) in slots.range((start, Bound::Unbounded)) {

@@ -1,4 +1,4 @@
--- What the functions that read a part answer: the part at the front of the bytes, and the bytes behind it.
+-- What the functions that read a part answer: the part at the front of the bytes, and the bytes after it.
 use Rattle.std.specs.Prelude.{◌≡◌, ℕ, zero, suc, Bool, true, false, List, [], ◌∷◌, length, take, drop, Option, Some, None, Result, Ok, Err, nat_lt, ◌==◌, if◌then◌else◌}
 use Rattle.std.specs.Result.{result_ok}
 use Rattle.std.specs.Int.{w32, w64, from_le_bytes}
@@ -24,9 +24,9 @@ abbrev pub Fails : {Y : Type 0} → Unread → Option Y → Type 0
 Fails NoMemory read = Unit {0}
 Fails Refused read = read ≡ None
 
-abbrev pub Gives : {X Y : Type 0} → (X → Y) → Result X Unread → Option Y → Type 0
-Gives view (Ok x) read = read ≡ Some (view x)
-Gives view (Err e) read = Fails e read
+abbrev pub ReadsAs : {X Y : Type 0} → (X → Y) → Result X Unread → Option Y → Type 0
+ReadsAs view (Ok x) read = read ≡ Some (view x)
+ReadsAs view (Err e) read = Fails e read
 
 -- ---- how readers are put together
 
@@ -48,13 +48,13 @@ made build read bytes = do
   a ← read bytes
   Some (build a.0, a.1)
 
--- what stands behind this byte, or else what another reader gives
+-- what stands after this byte, or else what another reader gives
 abbrev pub tagged : {A : Type 0} → ℕ → Reader A → Reader A → Reader A
 tagged tag read other [] = None
 tagged tag read other (b ∷ bytes) = if b == tag then read bytes else other (b ∷ bytes)
 
-abbrev pub nothing : {A : Type 0} → Reader A
-nothing bytes = None
+abbrev pub none_at : {A : Type 0} → Reader A
+none_at bytes = None
 
 -- a value without bytes of its own
 abbrev pub given : {A : Type 0} → A → Reader A
@@ -96,10 +96,10 @@ unfoldable pub ref_name_at : Reader RefName
 ref_name_at = made (λ (p : List ℕ × RefSpot). let name : RefName = record { space = p.0; spot = p.1 } in name) (both name_at spot_at)
 
 unfoldable pub flag_at : Reader Bool
-flag_at = tagged 0 (given false) (tagged 1 (given true) nothing)
+flag_at = tagged 0 (given false) (tagged 1 (given true) none_at)
 
 unfoldable pub kind_at : Reader LinkKind
-kind_at = tagged 0 (given Object) (tagged 1 (given Binary) nothing)
+kind_at = tagged 0 (given Object) (tagged 1 (given Binary) none_at)
 
 unfoldable pub link_at : Reader Link
 link_at = made (λ (p : LinkKind × IoHash). let link : Link = record { kind = p.0; hash = p.1 } in link) (both kind_at hash_at)
@@ -121,7 +121,7 @@ unfoldable pub stored_at : Reader Stored
 stored_at = made (λ (p : IoHash × (ℕ × (ℕ × List Link))). let blob : Stored = record { hash = p.0; len = p.1.0; start = p.1.1.0; links = p.1.1.1 } in blob) (both hash_at (both eight_at (both eight_at counted_links_at)))
 
 unfoldable pub fresh_at : Reader (Option Stored)
-fresh_at = tagged 0 (given None) (tagged 1 (made Some stored_at) nothing)
+fresh_at = tagged 0 (given None) (tagged 1 (made Some stored_at) none_at)
 
 -- ---- the entries
 
@@ -154,4 +154,4 @@ entry_at =
     (tagged 0x04 put_at
     (tagged 0x05 finalise_at
     (tagged 0x06 delete_at
-    (tagged 0x07 touch_at nothing))))))
+    (tagged 0x07 touch_at none_at))))))

@@ -21,23 +21,23 @@ abbrev pub place_cmp : Place → Place → Ordering
 place_cmp a b = ordering_then (name_cmp a.space b.space) (option_cmp spot_cmp a.spot b.spot)
 
 -- an entry in front of others, where its place has a spot
-abbrev pub with_entry : List ℕ → Option RefSpot → Slot → List (RefName × Slot) → List (RefName × Slot)
-with_entry space None slot es = es
-with_entry space (Some spot) slot es = (record { space = space; spot = spot }, slot) ∷ es
+abbrev pub entry_then : List ℕ → Option RefSpot → Slot → List (RefName × Slot) → List (RefName × Slot)
+entry_then space None slot es = es
+entry_then space (Some spot) slot es = (record { space = space; spot = spot }, slot) ∷ es
 
 -- the entries whose places have a spot, by the names of their references
-abbrev pub named : List (Place × Slot) → List (RefName × Slot)
-named [] = []
-named (e ∷ es) = with_entry e.0.space e.0.spot e.1 (named es)
+abbrev pub by_names : List (Place × Slot) → List (RefName × Slot)
+by_names [] = []
+by_names (e ∷ es) = entry_then e.0.space e.0.spot e.1 (by_names es)
 
 -- the finite map of an ordered map's entries
 abbrev pub slots_of : List (Place × Slot) → Slots
-slots_of es = from_entries (named es)
+slots_of es = from_entries (by_names es)
 
 -- the entries up to the first of another namespace
 abbrev pub run_of : List ℕ → List (Place × Slot) → List (RefName × Slot)
 run_of space [] = []
-run_of space (e ∷ es) = cond (is_eq (name_cmp e.0.space space)) (with_entry e.0.space e.0.spot e.1 (run_of space es)) []
+run_of space (e ∷ es) = cond (is_eq (name_cmp e.0.space space)) (entry_then e.0.space e.0.spot e.1 (run_of space es)) []
 
 -- the entries of the range that begins after a spot, up to the first of another namespace
 abbrev pub run_after : List ℕ → Option RefSpot → List (Place × Slot) → List (RefName × Slot)

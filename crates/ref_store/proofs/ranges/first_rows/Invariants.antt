@@ -1,8 +1,8 @@
 use Rattle.std.proofs.Common.{◌≡◌, ◌≤◌, ◌++◌, take, length}
 use Rattle.std.specs.List.{filter_map}
 use Rattle.ref_store.specs.Pages.{row_of}
-use Rattle.ref_store.specs.Places.{run_of, run_after}
-use Rattle.ref_store.proofs.walk.first_rows.Given as goal
+use Rattle.ref_store.specs.inside.Places.{run_of, run_after}
+use Rattle.ref_store.proofs.ranges.first_rows.Given as goal
 
 abbrev pub invariant-loop-place : goal.invariant-loop-place
 invariant-loop-place l = record {
