@@ -416,10 +416,10 @@ class Reader:
         return flag
 
     def blob(self):
-        named, length, _start, count = self.take(20), self.number(8), self.number(8), self.number(4)
+        named, length, start, count = self.take(20), self.number(8), self.number(8), self.number(4)
         if count > len(self.data):
             raise NoEntry
-        return named, length, [(self.flag() == 0, self.take(20)) for _ in range(count)]
+        return named, length, start, [(self.flag() == 0, self.take(20)) for _ in range(count)]
 
     def entry(self):
         """The entry at the front, as its kind and its fields."""
@@ -618,7 +618,7 @@ class Store:
     # ---- what a journal leads to
 
     def fresh(self, space, blob, data, hour):
-        named, length, links = blob
+        named, length, _start, links = blob
         if (space, named) in self.blobs or length > MOST_BYTES or len(links) > MOST_LINKS:
             raise NoEntry
         self.blobs[space, named] = Blob(data, links, hour)

@@ -12,7 +12,7 @@ use Rattle.std.proofs.lemmas.Map.Keys.{sorted_head, sorted_tail}
 use Rattle.ddc_names.specs.declared.hash.IoHash.{IoHash}
 use Rattle.ddc_names.specs.Orders.{io_hash_cmp, io_hash_exact, io_hash_total}
 use Rattle.cb_fields.specs.declared.links.Link.{Link}
-use Rattle.cb_fields.proofs.Laws.{one_object}
+use Rattle.cb_fields.proofs.Theorems.{one_object}
 use Rattle.ddc_model.specs.Content.{Content, AreLinksOf}
 use Rattle.ddc_model.specs.Closure.{Links, object, LeadsTo, LeadsToIn, IsReached, has_hash, IsWhole}
 use Rattle.ddc_model.specs.Laws.{OneContent, OneListOfNeeds, WholeStaysWhole}

@@ -9,7 +9,7 @@ use Rattle.httparse.specs.Grammar.{RequestHead, print_request, is_token_byte, is
 use Rattle.httparse.proofs.GrammarLemmas.{request_unique, print_request-append}
 use Rattle.std.specs.Prelude.{Bool, false}
 use Rattle.cb_fields.specs.Language.{IsObject}
-use Rattle.cb_fields.proofs.Laws.{fault_is_no_object, one_fault}
+use Rattle.cb_fields.proofs.Theorems.{fault_is_no_object, one_fault}
 use Rattle.ddc_model.specs.Content.{Content, IsContent, AreLinksOf}
 use Rattle.ddc_model.proofs.Once.{content_once}
 use Rattle.ddc_protocol.specs.declared.form.Form.{Form}
