@@ -2,4 +2,3 @@ pub mod Laws
 pub mod Facts
 pub mod Worked
 mod Bytes
-mod Rounds
