@@ -4,9 +4,11 @@
 #![tactic(auto)]
 
 mod block;
+mod laws;
 mod tree;
 
 pub use block::{chunk_value, compress, flagged_chunk, flagged_parent, parent_value};
+pub use laws::{left_and_right, one_chunk};
 pub use tree::{bytes_of, plain_hash};
 
 #[cfg(test)]

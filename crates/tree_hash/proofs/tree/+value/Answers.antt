@@ -1,7 +1,7 @@
 use Rattle.std.proofs.Common.{◌≡◌, ℕ, List, ◌+◌, ◌*◌, ◌%◌, ◌^◌, take, drop, add-one, sym, ◌∙◌}
 use Rattle.std.proofs.lemmas.List.{take_rest}
 use Rattle.tree_hash.specs.TreeHash.{value}
-use Rattle.tree_hash.proofs.Laws.{shifted, value_chunk, value_cut}
+use Rattle.tree_hash.proofs.Cuts.{shifted, value_chunk, value_cut}
 use Rattle.tree_hash.proofs.tree.+value.Goals as goal
 
 pub returns-then-bytes-le1024 : goal.returns-then-bytes-le1024

@@ -6,7 +6,7 @@ use Rattle.std.proofs.lemmas.Bool.{cases_lt}
 use Rattle.std.proofs.lemmas.Bool.Decides.{leb_tells}
 use Rattle.std.proofs.Math.Nat.{pow-succ'}
 use Rattle.std.proofs.Math.Pow.{pow_mono}
-use Rattle.tree_hash.specs.TreeHash.{chunk_value, parent_value, tree, value}
+use Rattle.tree_hash.specs.TreeHash.{IsLeft, chunk_value, parent_value, tree, value}
 
 pub below_power : (n : ℕ) → n < 2 ^ n
 below_power zero = omega arith
@@ -61,6 +61,17 @@ value_cut d b n flag lt le =
     let back : length (drop (1024 * 2 ^ d) b) ≡ length b - 1024 * 2 ^ d = length-drop (1024 * 2 ^ d) b in
     value_at (suc d) b n flag le ∙ tree_high d b n flag lt
     ∙ rw (value_at d (take (1024 * 2 ^ d) b) n 0 (omega arith), value_at d (drop (1024 * 2 ^ d) b) (n + 2 ^ d) 0 (omega arith)) refl
+
+-- of more bytes than a chunk there is a left part
+left_below : (e len : ℕ) → 1024 < len → len ≤ 1024 * 2 ^ e → (d : ℕ) × IsLeft d len
+left_below zero len long h = absurd (omega arith)
+left_below (suc e) len long h = elim (cases_lt (1024 * 2 ^ e) len) [
+  | inl lt ↦ (e, (lt, h))
+  | inr ge ↦ left_below e len long ge
+]
+
+pub left_of : (len : ℕ) → 1024 < len → (d : ℕ) × IsLeft d len
+left_of len long = left_below len len long (omega (arith, below_power len))
 
 -- a part of at most 2 ^ 63 bytes is not higher than 53
 pub height_below : (d : ℕ) → 1024 * 2 ^ d < 2 ^ 63 → d < 53
