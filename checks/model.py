@@ -358,9 +358,27 @@ def spelled_name(name):
     return spelled_text(name[0]) + spelled_text(name[1]) + name[2]
 
 
+def spelled_row(named, length, links):
+    spelled = b''.join((b'\x00' if is_object else b'\x01') + other for is_object, other in links)
+    return named + eight(length) + eight(0) + four(len(links)) + spelled
+
+
 def spelled_blob(data):
-    links = b''.join((b'\x00' if is_object else b'\x01') + named for is_object, named in links_of(data))
-    return io_hash(data) + eight(len(data)) + eight(0) + four(len(links) // 21) + links
+    return spelled_row(io_hash(data), len(data), links_of(data))
+
+
+def spelled_entry(kind, *fields):
+    """The entry of a kind with its fields, as a reader gives them."""
+    front = bytes([('space', 'upload', 'repin', 'put', 'finalise', 'delete', 'touch').index(kind) + 1])
+    front += spelled_text(fields[0]) if kind in ('space', 'upload', 'repin') else spelled_name(fields[0])
+    if kind == 'space':
+        return front + four(fields[1]) + four(fields[2])
+    if kind == 'upload':
+        return front + spelled_row(*fields[1]) + four(fields[2])
+    if kind == 'put':
+        _, root, blob, whole, hour = fields
+        return front + root + (b'\x01' + spelled_row(*blob) if blob else b'\x00') + bytes([whole]) + four(hour)
+    return front + b''.join(fields[1:-1]) + four(fields[-1])
 
 
 class NoEntry(Exception):
@@ -398,10 +416,10 @@ class Reader:
         return flag
 
     def blob(self):
-        named, length, _start, count = self.take(20), self.number(8), self.number(8), self.number(4)
+        named, length, start, count = self.take(20), self.number(8), self.number(8), self.number(4)
         if count > len(self.data):
             raise NoEntry
-        return named, length, [(self.flag() == 0, self.take(20)) for _ in range(count)]
+        return named, length, start, [(self.flag() == 0, self.take(20)) for _ in range(count)]
 
     def entry(self):
         """The entry at the front, as its kind and its fields."""
@@ -516,6 +534,14 @@ class Store:
                 reached += blob.links
         return sorted(missing)
 
+    def first_unsound(self):
+        """The first reference, by name, that is finalised while a blob of its closure isn't there."""
+        for name in sorted(self.slots):
+            done = self.slots[name].done
+            if done is not None and self.needs(name[0], done):
+                return name
+        return None
+
     def set_space(self, space, ttl, pin):
         self.spaces[space] = ttl, pin
         self.made(b'\x01' + spelled_text(space) + four(ttl) + four(pin))
@@ -592,7 +618,7 @@ class Store:
     # ---- what a journal leads to
 
     def fresh(self, space, blob, data, hour):
-        named, length, links = blob
+        named, length, _start, links = blob
         if (space, named) in self.blobs or length > MOST_BYTES or len(links) > MOST_LINKS:
             raise NoEntry
         self.blobs[space, named] = Blob(data, links, hour)
@@ -654,10 +680,9 @@ def opened(data):
             store.follow(body)
         except NoEntry:
             raise Unopened('corrupt file 0 at %d' % at) from None
-    for name in sorted(store.slots):
-        done = store.slots[name].done
-        if done is not None and store.needs(name[0], done):
-            raise Unopened('unsound %s/%s/%s' % (name[0].decode(), name[1].decode(), name[2].hex()))
+    name = store.first_unsound()
+    if name is not None:
+        raise Unopened('unsound %s/%s/%s' % (name[0].decode(), name[1].decode(), name[2].hex()))
     return store
 
 

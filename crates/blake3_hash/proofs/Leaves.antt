@@ -7,7 +7,7 @@ use Rattle.std.proofs.Math.Nat.{pow-succ'}
 use Rattle.std.proofs.Math.Pow.{pow_mono}
 use Rattle.tree_hash.specs.TreeHash.{chunk_value, tree, value}
 use Rattle.blake3_hash.specs.Spine.{joined, leaves, spine_root}
-use Rattle.tree_hash.proofs.Laws.{below_power, tree_high, tree_low}
+use Rattle.tree_hash.proofs.Cuts.{below_power, tree_high, tree_low}
 use Rattle.blake3_hash.proofs.Joined.{joined_low, joined_high}
 
 -- the height does not matter, once it is enough

@@ -7,7 +7,7 @@ use Rattle.std.proofs.Math.Pow.{pow_mono}
 use Rattle.tree_hash.specs.TreeHash.{chunk_value, parent_value}
 use Rattle.blake3_hash.specs.Spine.{Holds, joined, last_of, pairs, pairs_at, spine_root}
 use Rattle.blake3_hash.proofs.Joined.{lifted, joined-lifted}
-use Rattle.tree_hash.proofs.Laws.{below_power}
+use Rattle.tree_hash.proofs.Cuts.{below_power}
 use Rattle.blake3_hash.proofs.Leaves.{joined_same}
 
 pub last_of-push : (xs : List (List ℕ)) (v : List ℕ) → last_of (xs ++ v ∷ []) ≡ v

@@ -2,4 +2,3 @@ pub mod Joined
 pub mod Leaves
 pub mod Levels
 pub mod Held
-mod Bytes

@@ -4,9 +4,9 @@ ghost use Rattle.tree_hash.specs.TreeHash.{blake3};
 ghost use Rattle.blake3_hash.specs.Spine.{IsPushed, leaves};
 ghost use Rattle.blake3_hash.specs.Fed.{IsFed, IsHeld, fed_length};
 
-use crate::block::flagged_chunk;
 use crate::spine::Spine;
 use std::marker::Model;
+use tree_hash::flagged_chunk;
 
 /// The hash of a message that is fed in pieces. A clause speaks of the bytes fed by `IsFed`, and of their number by
 /// `fed_length`.

@@ -2,13 +2,12 @@
 //! No call takes memory.
 #![tactic(auto)]
 
-mod block;
 mod hasher;
 mod spine;
 
-pub use block::{chunk_value, compress, parent_value};
 pub use hasher::Hasher;
 pub use spine::{Spine, hash};
+pub use tree_hash::{chunk_value, compress, parent_value};
 
 #[cfg(test)]
 mod tests;

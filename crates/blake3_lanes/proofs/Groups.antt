@@ -6,7 +6,7 @@ use Rattle.blake3_hash.specs.Spine.{leaves}
 use Rattle.blake3_hash.proofs.Leaves.{length-leaves, take-leaves}
 use Rattle.blake3_hash.proofs.Held.{drop_behind, leaves-append}
 
-rows_leaves : (k : ℕ) (rows : List (List ℕ)) (b : List ℕ) (n : ℕ) → length rows ≡ k
+pub rows_leaves : (k : ℕ) (rows : List (List ℕ)) (b : List ℕ) (n : ℕ) → length rows ≡ k
     → ((j : ℕ) → j < k → slice_index_or rows j [] ≡ chunk_value (take 1024 (drop (1024 * j) b)) (n + j) 0) → rows ≡ leaves k b n
 unfolding leaves
 rows_leaves zero [] b n len h = refl

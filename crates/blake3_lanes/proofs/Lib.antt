@@ -4,3 +4,4 @@ pub mod Groups
 pub mod Subtrees
 pub mod Buffered
 pub mod WordBytes
+mod EightLemmas

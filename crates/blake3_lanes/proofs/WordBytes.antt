@@ -11,7 +11,7 @@ use Rattle.blake3_lanes.proofs.LaneLemmas.{below_four, four_lanes}
 
 -- ---- a load
 
-four_bytes : (ys : List ℕ) → length ys ≡ 4
+pub four_bytes : (ys : List ℕ) → length ys ≡ 4
     → number_l 256 ys ≡ slice_index ys 0 + slice_index ys 1 * 256 + slice_index ys 2 * 65536 + slice_index ys 3 * 16777216
 four_bytes = four_lanes _ (λ a b c d. omega arith)
 

@@ -18,6 +18,10 @@ two_bytes = 2 ∷ 3 ∷ 0 ∷ 1 ∷ 6 ∷ 7 ∷ 4 ∷ 5 ∷ 10 ∷ 11 ∷ 8 ∷ 
 abbrev pub no_words : List ℕ
 no_words = 0 ∷ 0 ∷ 0 ∷ 0 ∷ []
 
+-- eight zeros
+abbrev pub no_words8 : List ℕ
+no_words8 = 0 ∷ 0 ∷ 0 ∷ 0 ∷ 0 ∷ 0 ∷ 0 ∷ 0 ∷ []
+
 -- the first half of a round: G on the four columns of the state
 unfoldable pub mix_columns : List ℕ → List ℕ → List ℕ
 mix_columns v m =

@@ -4,19 +4,21 @@ ghost use Rattle.tree_hash.specs.TreeHash.{block_words, chunk_value, start_flag,
 ghost use Rattle.blake3_hash.specs.Spine.{leaves};
 ghost use Rattle.blake3_lanes.specs.Lanes.{lane};
 
+use crate::eight::chunks::in_eights;
 use crate::kernel::{compress, rows, start_values};
 use crate::vectors::{Hidden, kept, load, read_ahead, transpose};
+use crate::width::WIDTH;
 use std::simd::prelude::*;
 
 #[inline(always)]
-fn low_word(x: u64) -> u32
+pub(crate) fn low_word(x: u64) -> u32
     ensures { result ≡ x % 2 ^ 32 }
 {
     (x % 0x1_0000_0000) as u32
 }
 
 #[inline(always)]
-fn high_word(x: u64) -> u32
+pub(crate) fn high_word(x: u64) -> u32
     ensures { result ≡ x / 2 ^ 32 }
 {
     (x / 0x1_0000_0000) as u32
@@ -83,7 +85,7 @@ fn columns(input: &[u8], at: usize) -> [u32x4; 16]
 
 // CHUNK_START for the first block of a chunk.
 #[inline(always)]
-fn start_flag(k: usize) -> u32
+pub(crate) fn start_flag(k: usize) -> u32
     ensures { result ≡ start_flag k }
 {
     if k == 0 { 1 } else { 0 }
@@ -123,16 +125,30 @@ pub fn chunks8(input: &[u8], first: u64) -> [[u32; 8]; 8]
     requires first { first ≤ 2 ^ 54 - 8 }
     ensures { result ≡ leaves 8 input.now first }
 {
-    chunks8_before(&Hidden::new(), input, first, &input[4096..])
+    chunks8_before(&Hidden::new(), input, first, input)
 }
 
-// The same, with the four chunks that are read next.
+// The same, with the eight chunks that are read next.
 pub(crate) fn chunks8_before(
     hidden: &Hidden,
     input: &[u8],
     first: u64,
     next: &[u8],
 ) -> [[u32; 8]; 8]
+    requires len { length input.now ≡ 8192 }
+    requires first { first ≤ 2 ^ 54 - 8 }
+    requires next { length next.now ≡ 8192 }
+    ensures { result ≡ leaves 8 input.now first }
+{
+    if WIDTH == 8 {
+        in_eights(input, first, next)
+    } else {
+        in_fours(hidden, input, first, &next[..4096])
+    }
+}
+
+// The same by vectors of four words, with the four chunks that are read next.
+fn in_fours(hidden: &Hidden, input: &[u8], first: u64, next: &[u8]) -> [[u32; 8]; 8]
     requires len { length input.now ≡ 8192 }
     requires first { first ≤ 2 ^ 54 - 8 }
     requires next { length next.now ≡ 4096 }

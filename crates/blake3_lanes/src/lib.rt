@@ -3,10 +3,12 @@
 #![tactic(auto)]
 
 mod chunks;
+mod eight;
 mod kernel;
 mod parents;
 mod vectors;
 mod wide;
+mod width;
 
 pub use chunks::chunks8;
 pub use parents::parents8;

@@ -135,16 +135,16 @@ fn push_front(spine: &mut Spine, values: &[[u32; 8]; 8], whole: usize)
     }
 }
 
-// Four chunks from byte `at` on, and the first four where there are fewer.
-fn four_chunks(bytes: &[u8], at: usize) -> &[u8]
+// Eight chunks from byte `at` on, and the first eight where there are fewer.
+fn eight_chunks(bytes: &[u8], at: usize) -> &[u8]
     requires at { at ≤ length bytes.now }
-    requires len { 4096 ≤ length bytes.now }
-    ensures { length result.now ≡ 4096 }
+    requires len { 8192 ≤ length bytes.now }
+    ensures { length result.now ≡ 8192 }
 {
-    if bytes.len() - at >= 4096 {
-        &bytes[at..at + 4096]
+    if bytes.len() - at >= 8192 {
+        &bytes[at..at + 8192]
     } else {
-        &bytes[..4096]
+        &bytes[..8192]
     }
 }
 
@@ -155,7 +155,7 @@ fn group_values(hidden: &Hidden, bytes: &[u8], number: u64, k: usize) -> [[u32; 
     ensures { result ≡ leaves 8 (take 8192 (drop (8192 * k) bytes.now)) (number + 8 * k) }
 {
     let group = &bytes[8192 * k..8192 * k + 8192];
-    let next = four_chunks(bytes, 8192 * k + 8192);
+    let next = eight_chunks(bytes, 8192 * k + 8192);
     chunks8_before(hidden, group, number + 8 * k as u64, next)
 }
 

@@ -5,11 +5,11 @@ use Rattle.cb_fields.specs.declared.links.Link.{Link as LinkOf}
 use Rattle.cb_fields.specs.declared.header.Contents.{Contents}
 use Rattle.cb_fields.specs.declared.header.Header.{Header}
 use Rattle.cb_fields.specs.declared.header.Header.TheVariants.{End, Bad, Plain, Link, Container}
-use Rattle.cb_fields.specs.Form.{counted, may_end, is_full, fewer}
-use Rattle.cb_fields.specs.Header.{header}
+use Rattle.cb_fields.specs.Shape.{counted, may_end, is_full, fewer}
+use Rattle.cb_fields.specs.inside.Header.{next_header}
 use Rattle.cb_fields.specs.Language.{Field, Whole, Spells, none, more, starts_object, IsObject, IsNoObject, HasLinks}
 use Rattle.cb_fields.specs.Fault.{FirstFault, FaultAt}
-use Rattle.cb_fields.specs.Walk.{Outcome, Fault, Cut, Comes}
+use Rattle.cb_fields.specs.inside.FieldWalk.{Outcome, Fault, Cut, Comes}
 use Rattle.cb_fields.proofs.Front.{opens_some}
 use Rattle.cb_fields.proofs.Found.{OpensField}
 use Rattle.cb_fields.proofs.Steps.{HeaderFound, header_found, end_comes, bad_comes, plain_comes, link_comes, inner_fault_comes, within_comes}
@@ -83,14 +83,14 @@ Outcomes c bs at links = (o : Outcome) × Comes c bs at links o
 abbrev Shorter : ℕ → Type 0
 Shorter fuel = (c : Contents) (bs : List ℕ) (at : ℕ) (links : List LinkOf) → length bs < fuel → Outcomes c bs at links
 
-within_case : (fuel : ℕ) (c inner : Contents) (bs : List ℕ) (at before size : ℕ) (links : List LinkOf) → header c bs ≡ Container before size inner
+within_case : (fuel : ℕ) (c inner : Contents) (bs : List ℕ) (at before size : ℕ) (links : List LinkOf) → next_header c bs ≡ Container before size inner
     → length (drop (before + size) bs) < fuel → Shorter fuel → (mid : Outcome) → Comes inner (take size (drop before bs)) (at + before) links mid → Outcomes c bs at links
 within_case fuel c inner bs at before size links is short ih (Fault place) r = (Fault place, inner_fault_comes c inner bs at before size place links is r)
 within_case fuel c inner bs at before size links is short ih (Cut more_links) r =
     let next = ih (fewer c) (drop (before + size) bs) (at + (before + size)) more_links short in
     (next.0, within_comes c inner bs at before size links more_links next.0 is r next.1)
 
-outcome_case : (fuel : ℕ) (h : Header) (c : Contents) (bs : List ℕ) (at : ℕ) (links : List LinkOf) → header c bs ≡ h → HeaderFound h c bs → length bs < suc fuel → Shorter fuel → Outcomes c bs at links
+outcome_case : (fuel : ℕ) (h : Header) (c : Contents) (bs : List ℕ) (at : ℕ) (links : List LinkOf) → next_header c bs ≡ h → HeaderFound h c bs → length bs < suc fuel → Shorter fuel → Outcomes c bs at links
 outcome_case fuel End c bs at links is f small ih = (Cut links, end_comes c bs at links is)
 outcome_case fuel Bad c bs at links is f small ih = (Fault at, bad_comes c bs at links is)
 outcome_case fuel (Plain k) c bs at links is f small ih =
@@ -113,7 +113,7 @@ outcome_case fuel (Container before size inner) c bs at links is f small ih =
 
 outcome : (fuel : ℕ) → Shorter fuel
 outcome zero c bs at links small = absurd (omega arith)
-outcome (suc fuel) c bs at links small = outcome_case fuel (header c bs) c bs at links refl (header_found c bs) small (outcome fuel)
+outcome (suc fuel) c bs at links small = outcome_case fuel (next_header c bs) c bs at links refl (header_found c bs) small (outcome fuel)
 
 -- an object, or a first fault
 abbrev pub Decided : List ℕ → Type 0

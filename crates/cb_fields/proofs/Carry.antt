@@ -6,12 +6,12 @@ use Rattle.cb_fields.specs.declared.links.LinkKind.{LinkKind}
 use Rattle.cb_fields.specs.declared.links.Link.{Link as LinkOf}
 use Rattle.cb_fields.specs.declared.header.Contents.{Contents}
 use Rattle.cb_fields.specs.declared.header.Header.TheVariants.{End, Bad, Plain, Link, Container}
-use Rattle.cb_fields.specs.declared.walk.Open.{Open}
-use Rattle.cb_fields.specs.declared.walk.Walk.{Walk}
-use Rattle.cb_fields.specs.Form.{counted, fewer}
-use Rattle.cb_fields.specs.Header.{header}
-use Rattle.cb_fields.specs.Language.{link}
-use Rattle.cb_fields.specs.Walk.{Outcome, Fault, Cut, Comes, Then, Nested, InBounds, Carries, StepsOn}
+use Rattle.cb_fields.specs.declared.field_walk.Open.{Open}
+use Rattle.cb_fields.specs.declared.field_walk.FieldWalk.{FieldWalk}
+use Rattle.cb_fields.specs.Shape.{counted, fewer}
+use Rattle.cb_fields.specs.inside.Header.{next_header}
+use Rattle.cb_fields.specs.Language.{attached_link}
+use Rattle.cb_fields.specs.inside.FieldWalk.{Outcome, Fault, Cut, Comes, Then, Nested, InBounds, Carries, StepsOn}
 use Rattle.cb_fields.proofs.Steps.{end_comes, bad_comes, plain_comes, link_comes, inner_fault_comes, within_comes}
 
 nested-end : (at end : ℕ) (outer : List Open) → Nested at outer end → at ≤ end
@@ -56,7 +56,7 @@ first_carries bytes mid o r t =
 
 opened : (bytes : List ℕ) (c : Contents) (at end before size : ℕ) (inner : Contents) (outer : List Open) (links : List LinkOf) (mid o : Outcome)
     → ((m p : Outcome) → Comes c (slice_range bytes at end) at links m → Then bytes outer end m p → Comes (counted 1) bytes 0 [] p)
-    → header c (slice_range bytes at end) ≡ Container before size inner → at + (before + size) ≤ end
+    → next_header c (slice_range bytes at end) ≡ Container before size inner → at + (before + size) ≤ end
     → Comes inner (slice_range bytes (at + before) (at + (before + size))) (at + before) links mid
     → Then bytes (record { contents = fewer c; end = end } ∷ outer) (at + (before + size)) mid o
     → Comes (counted 1) bytes 0 [] o
@@ -66,17 +66,17 @@ opened bytes c at end before size inner outer links (Cut more) o f is h r t =
     f t.0 o (within_comes c inner _ at before size links more t.0 is (rw (part-take bytes at before size end h) r) (rw (part-drop bytes at (before + size) end h) t.1)) t.2
 
 -- the bytes that are left of the inmost container
-abbrev pub left_of : List ℕ → Walk → List ℕ
+abbrev pub left_of : List ℕ → FieldWalk → List ℕ
 left_of bytes walk = slice_range bytes walk.at walk.inmost.end
 
-module _ (bytes : List ℕ) (old new : Walk) (bounds : InBounds bytes old) where
+module _ (bytes : List ℕ) (old new : FieldWalk) (bounds : InBounds bytes old) where
   reach : (k : ℕ) → k ≤ length (left_of bytes old) → old.at + k ≤ old.inmost.end
   reach k h =
       let e = part-length bytes old.at old.inmost.end bounds.before bounds.fits in
       let b : old.at ≤ old.inmost.end = bounds.before in
       omega (arith, h, e)
 
-  pub plain_steps : (n : ℕ) → Plain n ≡ header old.inmost.contents (left_of bytes old) → (0 < n) × (n ≤ length (left_of bytes old))
+  pub plain_steps : (n : ℕ) → Plain n ≡ next_header old.inmost.contents (left_of bytes old) → (0 < n) × (n ≤ length (left_of bytes old))
       → new.at ≡ old.at + n → new.inmost ≡ record { contents = fewer old.inmost.contents; end = old.inmost.end } → new.outer ≡ old.outer → StepsOn bytes old new []
   plain_steps n is m place around within =
       let r : old.at + n ≤ old.inmost.end = reach n m.1 in
@@ -87,8 +87,8 @@ module _ (bytes : List ℕ) (old new : Walk) (bounds : InBounds bytes old) where
         carries = λ links c. rw (place, around, within, append-nil) (λ mid o come t. c mid o (plain_comes _ _ old.at n links mid (sym is) (rw p come)) t);
       }
 
-  pub link_steps : (kind : LinkKind) (n : ℕ) (met : LinkOf) → Link kind n ≡ header old.inmost.contents (left_of bytes old) → (20 ≤ n) × (n ≤ length (left_of bytes old))
-      → met ≡ link kind (slice_range (left_of bytes old) (n - 20) n)
+  pub link_steps : (kind : LinkKind) (n : ℕ) (met : LinkOf) → Link kind n ≡ next_header old.inmost.contents (left_of bytes old) → (20 ≤ n) × (n ≤ length (left_of bytes old))
+      → met ≡ attached_link kind (slice_range (left_of bytes old) (n - 20) n)
       → new.at ≡ old.at + n → new.inmost ≡ record { contents = fewer old.inmost.contents; end = old.inmost.end } → new.outer ≡ old.outer → StepsOn bytes old new (met ∷ [])
   link_steps kind n met is m e place around within =
       let r : old.at + n ≤ old.inmost.end = reach n m.1 in
@@ -100,7 +100,7 @@ module _ (bytes : List ℕ) (old new : Walk) (bounds : InBounds bytes old) where
         carries = λ links c. rw (place, around, within, e, last) (λ mid o come t. c mid o (link_comes _ _ old.at n kind links mid (sym is) (rw p come)) t);
       }
 
-  pub container_steps : (before size : ℕ) (inner : Contents) → Container before size inner ≡ header old.inmost.contents (left_of bytes old) → (0 < before) × (before + size ≤ length (left_of bytes old))
+  pub container_steps : (before size : ℕ) (inner : Contents) → Container before size inner ≡ next_header old.inmost.contents (left_of bytes old) → (0 < before) × (before + size ≤ length (left_of bytes old))
       → new.at ≡ old.at + before → new.inmost ≡ record { contents = inner; end = old.at + before + size }
       → new.outer.items ≡ old.outer.items ++ record { contents = fewer old.inmost.contents; end = old.inmost.end } ∷ [] → StepsOn bytes old new []
   container_steps before size inner is m place around within =
@@ -115,7 +115,7 @@ module _ (bytes : List ℕ) (old new : Walk) (bounds : InBounds bytes old) where
         carries = λ links c. rw (place, around, rev, append-nil, a) (λ mid o come t. opened bytes old.inmost.contents old.at old.inmost.end before size inner (reverse old.outer.items) links mid o c (sym is) r come t);
       }
 
-  pub end_steps : (container : Open) → End ≡ header old.inmost.contents (left_of bytes old) → length (left_of bytes old) ≡ 0
+  pub end_steps : (container : Open) → End ≡ next_header old.inmost.contents (left_of bytes old) → length (left_of bytes old) ≡ 0
       → new.at ≡ old.at → new.inmost ≡ container → old.outer.items ≡ new.outer.items ++ container ∷ [] → StepsOn bytes old new []
   end_steps container is m place around within =
       let p = part-length bytes old.at old.inmost.end bounds.before bounds.fits in
@@ -130,10 +130,10 @@ module _ (bytes : List ℕ) (old new : Walk) (bounds : InBounds bytes old) where
         carries = λ links c. rw (place, around, append-nil) (λ mid o come t. c (Cut links) o (end_comes _ _ old.at links (sym is)) (rw rev (mid, rw (sym same) come, t)));
       }
 
-  pub complete_comes : End ≡ header old.inmost.contents (left_of bytes old) → old.outer.items ≡ [] → (links : List LinkOf) → Carries bytes old links → Comes (counted 1) bytes 0 [] (Cut links)
+  pub complete_comes : End ≡ next_header old.inmost.contents (left_of bytes old) → old.outer.items ≡ [] → (links : List LinkOf) → Carries bytes old links → Comes (counted 1) bytes 0 [] (Cut links)
   complete_comes is e links c =
       let rev : reverse old.outer.items ≡ [] = ap reverse e in
       c (Cut links) (Cut links) (end_comes _ _ old.at links (sym is)) (rw rev refl)
 
-  pub broken_comes : Bad ≡ header old.inmost.contents (left_of bytes old) → (links : List LinkOf) → Carries bytes old links → Comes (counted 1) bytes 0 [] (Fault old.at)
+  pub broken_comes : Bad ≡ next_header old.inmost.contents (left_of bytes old) → (links : List LinkOf) → Carries bytes old links → Comes (counted 1) bytes 0 [] (Fault old.at)
   broken_comes is links c = c (Fault old.at) (Fault old.at) (bad_comes _ _ old.at links (sym is)) (then_fault bytes (reverse old.outer.items) old.inmost.end old.at (Fault old.at) refl)

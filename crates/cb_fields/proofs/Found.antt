@@ -4,32 +4,32 @@ use Rattle.std.proofs.lemmas.List.{append-nil, take_all, take-append-drop, drop-
 use Rattle.std.proofs.Math.Seq.{take-append-add, drop-append-add, take-add}
 use Rattle.std.proofs.lemmas.Bool.{ltb-false, eqb-true, le-ltb}
 use Rattle.std.proofs.lemmas.Bool.Decides.{nat_tests}
-use Rattle.cb_fields.specs.Varuint.{followers, marked, spelled, varuint_at, IsVaruint}
+use Rattle.cb_fields.specs.Varuint.{followers, marked, big_endian_from, varuint_at, IsVaruint}
 use Rattle.cb_fields.specs.declared.links.LinkKind.{LinkKind}
 use Rattle.cb_fields.specs.declared.links.Link.{Link as LinkOf}
-use Rattle.cb_fields.specs.declared.form.Form.{Form}
-use Rattle.cb_fields.specs.declared.form.Form.TheVariants.{Refused, Fixed, Attachment, Number, Sized, Fields, UniformFields, Array, UniformArray}
+use Rattle.cb_fields.specs.declared.shape.Shape.{Shape}
+use Rattle.cb_fields.specs.declared.shape.Shape.TheVariants.{Refused, Fixed, Attachment, Number, Sized, Fields, UniformFields, Array, UniformArray}
 use Rattle.cb_fields.specs.declared.header.Contents.{Contents}
 use Rattle.cb_fields.specs.declared.header.Header.{Header}
 use Rattle.cb_fields.specs.declared.header.Header.TheVariants.{End, Bad, Plain, Link, Container}
-use Rattle.cb_fields.specs.Form.{form, is_allowed, is_void, nothing, rests}
-use Rattle.cb_fields.specs.Header.{sized, sized_by, begin, shifted, uniform_inside, counted_by, uniform_counted_by, inside, number_header, sized_header, container_header, payload, name_by, name_length, rest_by, rest_header, lasting, field_header}
-use Rattle.cb_fields.specs.Language.{HasSize, IsName, IsStart, typed, untyped, link, IsPlain, fixed, attachment, number, sized as sized_bytes, Opens, fields, uniform, uniform_empty, array, uniform_array, uniform_array_empty, Field, Spells, plain}
+use Rattle.cb_fields.specs.Shape.{shape, is_allowed, is_void, no_fields, rests}
+use Rattle.cb_fields.specs.inside.Header.{sized, sized_by, begin, shifted, uniform_inside, counted_by, uniform_counted_by, inside, number_header, sized_header, container_header, payload, name_by, name_length, rest_by, rest_header, lasting, field_header}
+use Rattle.cb_fields.specs.Language.{HasSize, IsFieldName, IsStart, typed, untyped, attached_link, IsPlain, fixed, attachment, number, sized as sized_bytes, Opens, fields, uniform, uniform_empty, array, uniform_array, uniform_array_empty, Field, Spells, plain}
 use Rattle.cb_fields.specs.Fault.{HasHeader, plain_field, container_field}
 use Rattle.cb_fields.proofs.Front.{Takes, plain_header, container_field_header}
 
 varuint_tail : (b : ℕ) (bs : List ℕ) (found : ℕ × ℕ) (short : Bool) → nat_lt (length bs) (followers b) ≡ short
-    → (if short then None else Some (spelled (b - marked b) (take (followers b) bs), 1 + followers b)) ≡ Some found
+    → (if short then None else Some (big_endian_from (b - marked b) (take (followers b) bs), 1 + followers b)) ≡ Some found
     → (found.1 ≤ length (b ∷ bs)) × IsVaruint found.0 (take found.1 (b ∷ bs))
 varuint_tail b bs found true e h = cc
 varuint_tail b bs found false e h =
     let enough : followers b ≤ length bs = ltb-false _ _ e in
-    let pair : (spelled (b - marked b) (take (followers b) bs), 1 + followers b) ≡ found = cc in
+    let pair : (big_endian_from (b - marked b) (take (followers b) bs), 1 + followers b) ≡ found = cc in
     let P : ℕ × ℕ → Type 0 = λ f. (f.1 ≤ length (b ∷ bs)) × IsVaruint f.0 (take f.1 (b ∷ bs)) in
     let one : 1 + followers b ≡ suc (followers b) = omega arith in
     let len : length (take (followers b) bs) ≡ followers b = rw length-take (omega arith) in
     let size : 1 + followers b ≤ suc (length bs) = omega arith in
-    let spells : IsVaruint (spelled (b - marked b) (take (followers b) bs)) (take (1 + followers b) (b ∷ bs)) = rw one (len, refl) in
+    let spells : IsVaruint (big_endian_from (b - marked b) (take (followers b) bs)) (take (1 + followers b) (b ∷ bs)) = rw one (len, refl) in
     subst P pair (size, spells)
 
 pub varuint_found : (bs : List ℕ) (found : ℕ × ℕ) → varuint_at bs ≡ Some found → (found.1 ≤ length bs) × IsVaruint found.0 (take found.1 bs)
@@ -66,11 +66,11 @@ has_size : (bs : List ℕ) (s : ℕ × ℕ) → SizedFound bs s → HasSize (tak
 has_size bs s f = record { size = take s.0 bs; spells = f.1; is = take-add s.0 s.1 bs }
 
 -- what the header of a payload says of the bytes
-abbrev PayloadFound : Header → Form → List ℕ → Type 0
+abbrev PayloadFound : Header → Shape → List ℕ → Type 0
 PayloadFound End f bs = Unit {0}
 PayloadFound Bad f bs = Unit {0}
 PayloadFound (Plain k) f bs = (k ≤ length bs) × IsPlain f (take k bs) []
-PayloadFound (Link kind k) f bs = (k ≡ 20) × (k ≤ length bs) × IsPlain f (take k bs) (link kind (take k bs) ∷ [])
+PayloadFound (Link kind k) f bs = (k ≡ 20) × (k ≤ length bs) × IsPlain f (take k bs) (attached_link kind (take k bs) ∷ [])
 PayloadFound (Container before size contents) f bs = (before + size ≤ length bs) × Opens f (take before bs) (take size (drop before bs)) contents
 
 fixed_flag : (n : ℕ) (bs : List ℕ) (short : Bool) → nat_lt (length bs) n ≡ short → PayloadFound (if short then Bad else Plain n) (Fixed n) bs
@@ -100,7 +100,7 @@ sized_bytes_tail bs (Some s) e =
     (w.0, sized_bytes (take s.1 (drop s.0 bs)) (has_size bs s w))
 
 -- what the header of the bytes xs that a size counts says of them
-abbrev InsideFound : Form → Header → List ℕ → Type 0
+abbrev InsideFound : Shape → Header → List ℕ → Type 0
 InsideFound f End xs = Unit {0}
 InsideFound f Bad xs = Unit {0}
 InsideFound f (Plain k) xs = ⊥
@@ -108,7 +108,7 @@ InsideFound f (Link kind k) xs = ⊥
 InsideFound f (Container before size contents) xs =
     (before + size ≡ length xs) × ((p : List ℕ) → IsVaruint (length xs) p → Opens f (p ++ take before xs) (take size (drop before xs)) contents)
 
-container_part : (f : Form) (bs : List ℕ) (k n : ℕ) (h : Header) → SizedFound bs (k, n) → InsideFound f h (take n (drop k bs)) → PayloadFound (shifted k h) f bs
+container_part : (f : Shape) (bs : List ℕ) (k n : ℕ) (h : Header) → SizedFound bs (k, n) → InsideFound f h (take n (drop k bs)) → PayloadFound (shifted k h) f bs
 container_part f bs k n End s i = tt
 container_part f bs k n Bad s i = tt
 container_part f bs k n (Plain j) s i = absurd i
@@ -123,7 +123,7 @@ container_part f bs k n (Container before size contents) s i =
     let o : Opens f (take k bs ++ take before (take n (drop k bs))) (take size (drop before (take n (drop k bs)))) contents = i.1 (take k bs) s.1 in
     (omega (arith, s.0), rw (front, part) at o)
 
-container_found : (f : Form) (bs : List ℕ) (s : Option (ℕ × ℕ)) → sized bs ≡ s → ((xs : List ℕ) → InsideFound f (inside f xs) xs) → PayloadFound (container_header f bs s) f bs
+container_found : (f : Shape) (bs : List ℕ) (s : Option (ℕ × ℕ)) → sized bs ≡ s → ((xs : List ℕ) → InsideFound f (inside f xs) xs) → PayloadFound (container_header f bs s) f bs
 container_found f bs None e i = tt
 container_found f bs (Some s) e i = container_part f bs s.0 s.1 (inside f (take s.1 (drop s.0 bs))) (sized_found bs s e) (i (take s.1 (drop s.0 bs)))
 
@@ -172,7 +172,7 @@ uniform_array_flag c t w ys true v e = (
 )
 
 uniform_array_end : (c : ℕ) (w : List ℕ) (flag : Bool) → IsVaruint c w → (c == 0) ≡ flag
-    → InsideFound UniformArray (shifted (length w) (if flag then Container 0 0 nothing else Bad)) (w ++ [])
+    → InsideFound UniformArray (shifted (length w) (if flag then Container 0 0 no_fields else Bad)) (w ++ [])
 uniform_array_end c w false v e = tt
 uniform_array_end c w true v e = (
   rw append-nil (omega arith),
@@ -205,7 +205,7 @@ uniform_array_found : (xs : List ℕ) → InsideFound UniformArray (inside Unifo
 unfolding inside
 uniform_array_found xs = uniform_array_tail xs (varuint_at xs) refl
 
-payload_found : (f : Form) (bs : List ℕ) → PayloadFound (payload f bs) f bs
+payload_found : (f : Shape) (bs : List ℕ) → PayloadFound (payload f bs) f bs
 unfolding payload
 payload_found Refused bs = tt
 payload_found (Fixed n) bs = fixed_flag n bs (nat_lt (length bs) n) refl
@@ -217,21 +217,21 @@ payload_found UniformFields bs = container_found UniformFields bs (sized bs) ref
 payload_found Array bs = container_found Array bs (sized bs) refl array_found
 payload_found UniformArray bs = container_found UniformArray bs (sized bs) refl uniform_array_found
 
-name_sized : (bs : List ℕ) (k : ℕ) (s : Option (ℕ × ℕ)) → sized bs ≡ s → name_by s ≡ Some k → (k ≤ length bs) × IsName false (take k bs)
+name_sized : (bs : List ℕ) (k : ℕ) (s : Option (ℕ × ℕ)) → sized bs ≡ s → name_by s ≡ Some k → (k ≤ length bs) × IsFieldName false (take k bs)
 name_sized bs k None e h = cc
 name_sized bs k (Some s) e h =
     let w = sized_found bs s e in
     let same : s.0 + s.1 ≡ k = cc in
-    let P : ℕ → Type 0 = λ j. (j ≤ length bs) × IsName false (take j bs) in
+    let P : ℕ → Type 0 = λ j. (j ≤ length bs) × IsFieldName false (take j bs) in
     subst P same (w.0, (take s.1 (drop s.0 bs), has_size bs s w))
 
-name_flag_found : (flag : Bool) (bs : List ℕ) (k : ℕ) → (if flag then Some 0 else name_by (sized bs)) ≡ Some k → (k ≤ length bs) × IsName flag (take k bs)
+name_flag_found : (flag : Bool) (bs : List ℕ) (k : ℕ) → (if flag then Some 0 else name_by (sized bs)) ≡ Some k → (k ≤ length bs) × IsFieldName flag (take k bs)
 name_flag_found true bs k h =
     let none : k ≡ 0 = cc in
     (omega arith, rw none refl)
 name_flag_found false bs k h = name_sized bs k (sized bs) refl h
 
-name_found : (t : ℕ) (bs : List ℕ) (k : ℕ) → name_length t bs ≡ Some k → (k ≤ length bs) × IsName (nat_lt t 0x80) (take k bs)
+name_found : (t : ℕ) (bs : List ℕ) (k : ℕ) → name_length t bs ≡ Some k → (k ≤ length bs) × IsFieldName (nat_lt t 0x80) (take k bs)
 unfolding name_length
 name_found t bs k h = name_flag_found (nat_lt t 0x80) bs k h
 
@@ -241,7 +241,7 @@ pub record OpensField (type_byte : Option ℕ) (before xs : List ℕ) (contents 
   pub start : List ℕ
   pub front : List ℕ
   pub starts : IsStart type_byte t start
-  pub opens : Opens (form (t % 0x80)) front xs contents
+  pub opens : Opens (shape (t % 0x80)) front xs contents
   pub is : before ≡ start ++ front
 
 -- what the header of a field says of the bytes
@@ -249,10 +249,10 @@ abbrev pub FieldFound : Header → Option ℕ → List ℕ → Type 0
 FieldFound End type_byte bs = Unit {0}
 FieldFound Bad type_byte bs = Unit {0}
 FieldFound (Plain k) type_byte bs = (k ≤ length bs) × Spells (Field type_byte) (take k bs) []
-FieldFound (Link kind k) type_byte bs = (20 ≤ k) × (k ≤ length bs) × Spells (Field type_byte) (take k bs) (link kind (drop (k - 20) (take k bs)) ∷ [])
+FieldFound (Link kind k) type_byte bs = (20 ≤ k) × (k ≤ length bs) × Spells (Field type_byte) (take k bs) (attached_link kind (drop (k - 20) (take k bs)) ∷ [])
 FieldFound (Container before size contents) type_byte bs = (before + size ≤ length bs) × OpensField type_byte (take before bs) (take size (drop before bs)) contents
 
-start_found : (type_byte : Option ℕ) (t k : ℕ) (bs : List ℕ) (h : Header) → k ≤ length bs → IsStart type_byte t (take k bs) → PayloadFound h (form (t % 0x80)) (drop k bs) → FieldFound (shifted k h) type_byte bs
+start_found : (type_byte : Option ℕ) (t k : ℕ) (bs : List ℕ) (h : Header) → k ≤ length bs → IsStart type_byte t (take k bs) → PayloadFound h (shape (t % 0x80)) (drop k bs) → FieldFound (shifted k h) type_byte bs
 start_found type_byte t k bs End within s f = tt
 start_found type_byte t k bs Bad within s f = tt
 start_found type_byte t k bs (Plain j) within s f =
@@ -267,7 +267,7 @@ start_found type_byte t k bs (Link kind j) within s f =
     (omega arith, all, rw (last, take-add k j bs) (plain (take k bs) (take j (drop k bs)) s f.2))
 start_found type_byte t k bs (Container before size contents) within s f =
     let all : k + before + size ≤ length bs = omega (arith, f.0, length-drop k bs) in
-    let o : Opens (form (t % 0x80)) (take before (drop k bs)) (take size (drop (k + before) bs)) contents = rw drop-drop at f.1 in
+    let o : Opens (shape (t % 0x80)) (take before (drop k bs)) (take size (drop (k + before) bs)) contents = rw drop-drop at f.1 in
     (all, record { t = t; start = take k bs; front = take before (drop k bs); starts = s; opens = o; is = take-add k before bs })
 
 plain_two : (j k : ℕ) → j ≡ k → Plain j ≡ Plain k
@@ -292,9 +292,9 @@ typed_tail t bs (Some k) e =
     let w = name_found t bs k e in
     let one : 1 + k ≡ suc k = omega arith in
     let s : IsStart None t (take (1 + k) (t ∷ bs)) = rw one (typed (take k bs) w.1) in
-    let f : PayloadFound (payload (form (t % 0x80)) (drop k bs)) (form (t % 0x80)) (drop (1 + k) (t ∷ bs)) = rw one (payload_found (form (t % 0x80)) (drop k bs)) in
+    let f : PayloadFound (payload (shape (t % 0x80)) (drop k bs)) (shape (t % 0x80)) (drop (1 + k) (t ∷ bs)) = rw one (payload_found (shape (t % 0x80)) (drop k bs)) in
     let within : 1 + k ≤ suc (length bs) = omega (arith, w.0) in
-    rw (shifted_twice 1 k (payload (form (t % 0x80)) (drop k bs))) (start_found None t (1 + k) (t ∷ bs) (payload (form (t % 0x80)) (drop k bs)) within s f)
+    rw (shifted_twice 1 k (payload (shape (t % 0x80)) (drop k bs))) (start_found None t (1 + k) (t ∷ bs) (payload (shape (t % 0x80)) (drop k bs)) within s f)
 
 lasting_flag : (h : Header) (type_byte : Option ℕ) (bs : List ℕ) (flag : Bool) → FieldFound h type_byte bs → FieldFound (if flag then Bad else h) type_byte bs
 lasting_flag h type_byte bs true f = tt
@@ -308,14 +308,14 @@ untyped_tail : (t : ℕ) (bs : List ℕ) (name : Option ℕ) → is_void t ≡ f
 untyped_tail t bs None solid e = tt
 untyped_tail t bs (Some k) solid e =
     let w = name_found t bs k e in
-    start_found (Some t) t k bs (payload (form (t % 0x80)) (drop k bs)) w.0 (untyped (take k bs) solid w.1) (payload_found (form (t % 0x80)) (drop k bs))
+    start_found (Some t) t k bs (payload (shape (t % 0x80)) (drop k bs)) w.0 (untyped (take k bs) solid w.1) (payload_found (shape (t % 0x80)) (drop k bs))
 
 empty_payload : (bs : List ℕ) → payload (Fixed 0) bs ≡ Plain 0
 unfolding payload
 empty_payload bs = (let no : nat_lt (length bs) 0 ≡ false = le-ltb (length bs) 0 (omega arith) in rw no refl)
 
-void_small : (t : ℕ) → is_void t ≡ true → (nat_lt t 0x80 ≡ true) × (form (t % 0x80) ≡ Fixed 0)
-unfolding form
+void_small : (t : ℕ) → is_void t ≡ true → (nat_lt t 0x80 ≡ true) × (shape (t % 0x80) ≡ Fixed 0)
+unfolding shape
 void_small t v = grind (arith, nat_tests)
 
 void_header : (t : ℕ) (bs : List ℕ) → is_void t ≡ true → lasting (rest_header t bs) ≡ Bad

@@ -6,16 +6,16 @@ use borrow.Author.Tests.{ltb-true}
 use Rattle.std.proofs.Math.Seq.{take-append_seam, drop-append_seam, drop-append-add}
 use Rattle.std.proofs.lemmas.Bool.{le-ltb}
 use Rattle.std.proofs.lemmas.Bool.Decides.{nat_tests}
-use Rattle.cb_fields.specs.Varuint.{followers, marked, spelled, varuint_at, IsVaruint}
+use Rattle.cb_fields.specs.Varuint.{followers, marked, big_endian_from, varuint_at, IsVaruint}
 use Rattle.cb_fields.specs.declared.links.Link.{Link as LinkOf}
-use Rattle.cb_fields.specs.declared.form.Form.{Form}
-use Rattle.cb_fields.specs.declared.form.Form.TheVariants.{Fixed, Fields, UniformFields, Array, UniformArray}
+use Rattle.cb_fields.specs.declared.shape.Shape.{Shape}
+use Rattle.cb_fields.specs.declared.shape.Shape.TheVariants.{Fixed, Fields, UniformFields, Array, UniformArray}
 use Rattle.cb_fields.specs.declared.header.Contents.{Contents}
 use Rattle.cb_fields.specs.declared.header.Header.{Header}
 use Rattle.cb_fields.specs.declared.header.Header.TheVariants.{End, Bad, Plain, Link, Container}
-use Rattle.cb_fields.specs.Form.{form, is_allowed, is_void, any_fields, nothing, counted, rests, may_end}
-use Rattle.cb_fields.specs.Header.{sized, begin, shifted, uniform_inside, inside, container_header, payload, name_by, name_length, rest_header, lasting, field_header}
-use Rattle.cb_fields.specs.Language.{HasSize, IsName, IsStart, typed, untyped, link, IsPlain, fixed, attachment, number, sized as sized_bytes, Opens, fields, uniform, uniform_empty, array, uniform_array, uniform_array_empty}
+use Rattle.cb_fields.specs.Shape.{shape, is_allowed, is_void, any_fields, no_fields, counted, rests, may_end}
+use Rattle.cb_fields.specs.inside.Header.{sized, begin, shifted, uniform_inside, inside, container_header, payload, name_by, name_length, rest_header, lasting, field_header}
+use Rattle.cb_fields.specs.Language.{HasSize, IsFieldName, IsStart, typed, untyped, attached_link, IsPlain, fixed, attachment, number, sized as sized_bytes, Opens, fields, uniform, uniform_empty, array, uniform_array, uniform_array_empty}
 
 pub varuint_read : (n : ℕ) (w others : List ℕ) → IsVaruint n w → varuint_at (w ++ others) ≡ Some (n, length w)
 varuint_read n [] others h = absurd h
@@ -24,7 +24,7 @@ varuint_read n (b ∷ bs) others h =
     let enough : followers b ≤ length (bs ++ others) = rw (length-append, sym h.0) (omega arith) in
     let no : nat_lt (length (bs ++ others)) (followers b) ≡ false = le-ltb _ _ enough in
     let count : 1 + followers b ≡ suc (length bs) = rw (sym h.0) (omega arith) in
-    let value : spelled (b - marked b) bs ≡ n = sym h.1 in
+    let value : big_endian_from (b - marked b) bs ≡ n = sym h.1 in
     rw (no, front, count, value) refl
 
 pub varuint_some : (n : ℕ) (w : List ℕ) → IsVaruint n w → 0 < length w
@@ -48,7 +48,7 @@ abbrev pub Takes : Header → List ℕ → List LinkOf → Type 0
 Takes End f ls = ⊥
 Takes Bad f ls = ⊥
 Takes (Plain k) f ls = (k ≡ length f) × (ls ≡ [])
-Takes (Link kind k) f ls = (k ≡ length f) × (20 ≤ k) × (ls ≡ link kind (drop (k - 20) f) ∷ [])
+Takes (Link kind k) f ls = (k ≡ length f) × (20 ≤ k) × (ls ≡ attached_link kind (drop (k - 20) f) ∷ [])
 Takes (Container before size contents) f ls = ⊥
 
 shift_takes : (h : Header) (w p : List ℕ) (ls : List LinkOf) → Takes h p ls → Takes (shifted (length w) h) (w ++ p) ls
@@ -67,7 +67,7 @@ begin_takes (Plain k) f ls t = t.0
 begin_takes (Link kind k) f ls t = t.0
 begin_takes (Container before size contents) f ls t = absurd t
 
-plain_payload : {f : Form} {p : List ℕ} {ls : List LinkOf} → IsPlain f p ls → (others : List ℕ) → Takes (payload f (p ++ others)) p ls
+plain_payload : {f : Shape} {p : List ℕ} {ls : List LinkOf} → IsPlain f p ls → (others : List ℕ) → Takes (payload f (p ++ others)) p ls
 unfolding payload
 plain_payload (fixed {n = n} {p = p} e) others =
     let enough : n ≤ length (p ++ others) = rw length-append (omega arith) in
@@ -83,7 +83,7 @@ plain_payload (sized_bytes {p = p} xs s) others =
     rw (sized_read xs p others s) (l, refl)
 
 -- a plain payload has bytes, or its form has none
-plain_some : {f : Form} {p : List ℕ} {ls : List LinkOf} → IsPlain f p ls → (f ≡ Fixed 0) ⊎ (0 < length p)
+plain_some : {f : Shape} {p : List ℕ} {ls : List LinkOf} → IsPlain f p ls → (f ≡ Fixed 0) ⊎ (0 < length p)
 plain_some (fixed {n = zero} {p = p} e) = inl refl
 plain_some (fixed {n = suc n} {p = p} e) = inr (rw e (zero-lt-suc n))
 plain_some (attachment e) = inr (omega arith)
@@ -92,7 +92,7 @@ plain_some (sized_bytes {p = p} xs s) =
     let some : 0 < length s.size = varuint_some (length xs) s.size s.spells in
     inr (rw (s.is, length-append) (omega arith))
 
-container_payload : (f : Form) (size xs others : List ℕ) → IsVaruint (length xs) size
+container_payload : (f : Shape) (size xs others : List ℕ) → IsVaruint (length xs) size
     → container_header f (size ++ (xs ++ others)) (sized (size ++ (xs ++ others))) ≡ shifted (length size) (inside f xs)
 container_payload f size xs others v =
     let part : take (length xs) (drop (length size) (size ++ (xs ++ others))) ≡ xs = rw (drop-append_seam, take-append_seam) refl in
@@ -106,7 +106,7 @@ uniform_inside_is : (t : ℕ) (xs : List ℕ) (count : Option ℕ) → is_allowe
 unfolding uniform_inside
 uniform_inside_is t xs count a = rw a refl
 
-uniform_inside_none : (count : Option ℕ) → may_end count ≡ true → uniform_inside count [] ≡ Container 0 0 nothing
+uniform_inside_none : (count : Option ℕ) → may_end count ≡ true → uniform_inside count [] ≡ Container 0 0 no_fields
 unfolding uniform_inside
 uniform_inside_none count m = rw m refl
 
@@ -131,7 +131,7 @@ containers p = (refl, refl, refl, refl)
 container_is : (j k size : ℕ) (contents : Contents) → j ≡ k → Container j size contents ≡ Container k size contents
 container_is j k size contents e = rw e refl
 
-pub opens_payload : {f : Form} {front xs : List ℕ} {contents : Contents} → Opens f front xs contents → (others : List ℕ)
+pub opens_payload : {f : Shape} {front xs : List ℕ} {contents : Contents} → Opens f front xs contents → (others : List ℕ)
     → payload f (front ++ (xs ++ others)) ≡ Container (length front) (length xs) contents
 opens_payload (fields {xs = xs} size v) others =
     (containers (size ++ (xs ++ others))).0 ∙ container_payload Fields size xs others v ∙ rw (fields_inside xs) (container_is _ _ _ _ (omega arith))
@@ -157,7 +157,7 @@ opens_payload (uniform_array_empty size count v w) others =
     rw cut ((containers (size ++ ((count ++ []) ++ others))).3 ∙ container_payload UniformArray size (count ++ []) others has
     ∙ rw (uniform_array_inside 0 count [] w, uniform_inside_none (Some 0) refl) (container_is _ _ _ _ len))
 
-pub opens_some : {f : Form} {front xs : List ℕ} {contents : Contents} → Opens f front xs contents → 0 < length front
+pub opens_some : {f : Shape} {front xs : List ℕ} {contents : Contents} → Opens f front xs contents → 0 < length front
 opens_some (fields {xs = xs} size v) = varuint_some (length xs) size v
 opens_some (uniform {xs = xs} size t v a) = rw length-append (omega (arith, varuint_some (length (t ∷ xs)) size v))
 opens_some (uniform_empty size v) = varuint_some 0 size v
@@ -165,24 +165,24 @@ opens_some (array {xs = xs} size count n v w) = rw length-append (omega (arith, 
 opens_some (uniform_array {xs = xs} size count n t v w a) = rw length-append (omega (arith, varuint_some (length (count ++ t ∷ xs)) size v))
 opens_some (uniform_array_empty size count v w) = rw length-append (omega (arith, varuint_some (length count) size v))
 
-name_flag : (flag : Bool) (name others : List ℕ) → IsName flag name → (if flag then Some 0 else name_by (sized (name ++ others))) ≡ Some (length name)
+name_flag : (flag : Bool) (name others : List ℕ) → IsFieldName flag name → (if flag then Some 0 else name_by (sized (name ++ others))) ≡ Some (length name)
 name_flag true name others h = rw h refl
 name_flag false name others h = rw (sized_read h.0 name others h.1, h.1.is, length-append) refl
 
-name_read : (t : ℕ) (name others : List ℕ) → IsName (nat_lt t 0x80) name → name_length t (name ++ others) ≡ Some (length name)
+name_read : (t : ℕ) (name others : List ℕ) → IsFieldName (nat_lt t 0x80) name → name_length t (name ++ others) ≡ Some (length name)
 unfolding name_length
 name_read t name others h = name_flag (nat_lt t 0x80) name others h
 
-rest_read : (t : ℕ) (name others : List ℕ) → IsName (nat_lt t 0x80) name → rest_header t (name ++ others) ≡ shifted (length name) (payload (form (t % 0x80)) others)
+rest_read : (t : ℕ) (name others : List ℕ) → IsFieldName (nat_lt t 0x80) name → rest_header t (name ++ others) ≡ shifted (length name) (payload (shape (t % 0x80)) others)
 unfolding rest_header
 rest_read t name others h = rw (name_read t name others h, drop-append_seam name others) refl
 
-void_form : (t : ℕ) → form t ≡ Fixed 0 → is_void t ≡ true
-unfolding form
+void_form : (t : ℕ) → shape t ≡ Fixed 0 → is_void t ≡ true
+unfolding shape
 void_form t h = grind (arith, nat_tests)
 
 -- a field of a uniform container has bytes
-untyped_some : (t : ℕ) (flag : Bool) (name p : List ℕ) → nat_lt t 0x80 ≡ flag → IsName flag name → is_void t ≡ false → (form (t % 0x80) ≡ Fixed 0) ⊎ (0 < length p) → 0 < length (name ++ p)
+untyped_some : (t : ℕ) (flag : Bool) (name p : List ℕ) → nat_lt t 0x80 ≡ flag → IsFieldName flag name → is_void t ≡ false → (shape (t % 0x80) ≡ Fixed 0) ⊎ (0 < length p) → 0 < length (name ++ p)
 untyped_some t flag name p e n solid (inr pos) = rw length-append (omega arith)
 untyped_some t true name p e n solid (inl s) =
     let small : t < 0x80 = ltb-true t 0x80 e in
@@ -197,24 +197,24 @@ keeps : (h : Header) → 0 < begin h → lasting h ≡ h
 unfolding lasting
 keeps h p = (let e : (begin h == 0) ≡ false = grind (arith, nat_tests) in rw e refl)
 
-pub plain_some_bytes : {type_byte : Option ℕ} {t : ℕ} {start p : List ℕ} {ls : List LinkOf} → IsStart type_byte t start → IsPlain (form (t % 0x80)) p ls → 0 < length (start ++ p)
+pub plain_some_bytes : {type_byte : Option ℕ} {t : ℕ} {start p : List ℕ} {ls : List LinkOf} → IsStart type_byte t start → IsPlain (shape (t % 0x80)) p ls → 0 < length (start ++ p)
 plain_some_bytes {p = p} (typed {t = t} name n) a = zero-lt-suc (length (name ++ p))
 plain_some_bytes {p = p} (untyped {t = t} name solid n) a = untyped_some t (nat_lt t 0x80) name p refl n solid (plain_some a)
 
-pub plain_header : {type_byte : Option ℕ} {t : ℕ} {start p : List ℕ} {ls : List LinkOf} → IsStart type_byte t start → IsPlain (form (t % 0x80)) p ls → (others : List ℕ)
+pub plain_header : {type_byte : Option ℕ} {t : ℕ} {start p : List ℕ} {ls : List LinkOf} → IsStart type_byte t start → IsPlain (shape (t % 0x80)) p ls → (others : List ℕ)
     → Takes (field_header type_byte (start ++ (p ++ others))) (start ++ p) ls
 plain_header {p = p} {ls = ls} (typed {t = t} name n) a others =
-    let h : Header = payload (form (t % 0x80)) (p ++ others) in
+    let h : Header = payload (shape (t % 0x80)) (p ++ others) in
     let s = shift_takes h name p ls (plain_payload a others) in
     rw (rest_read t name (p ++ others) n) (shift_takes (shifted (length name) h) (t ∷ []) (name ++ p) ls s)
 plain_header {p = p} {ls = ls} (untyped {t = t} name solid n) a others =
-    let h : Header = payload (form (t % 0x80)) (p ++ others) in
+    let h : Header = payload (shape (t % 0x80)) (p ++ others) in
     let s = shift_takes h name p ls (plain_payload a others) in
     let some : 0 < length (name ++ p) = untyped_some t (nat_lt t 0x80) name p refl n solid (plain_some a) in
     let pos : 0 < begin (shifted (length name) h) = rw (begin_takes (shifted (length name) h) (name ++ p) ls s) some in
     rw (rest_read t name (p ++ others) n, keeps (shifted (length name) h) pos) s
 
-pub container_field_header : {type_byte : Option ℕ} {t : ℕ} {start front xs : List ℕ} {contents : Contents} → IsStart type_byte t start → Opens (form (t % 0x80)) front xs contents
+pub container_field_header : {type_byte : Option ℕ} {t : ℕ} {start front xs : List ℕ} {contents : Contents} → IsStart type_byte t start → Opens (shape (t % 0x80)) front xs contents
     → (others : List ℕ) → field_header type_byte (start ++ (front ++ (xs ++ others))) ≡ Container (length (start ++ front)) (length xs) contents
 container_field_header {front = front} {xs = xs} {contents = contents} (typed {t = t} name n) o others =
     let len : 1 + (length name + length front) ≡ length ((t ∷ name) ++ front) = rw length-append (omega arith) in

@@ -9,4 +9,4 @@ pub mod Agree
 pub mod Shortest
 pub mod Written
 pub mod Told
-pub mod Laws
+pub mod Theorems

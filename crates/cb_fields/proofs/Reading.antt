@@ -5,27 +5,27 @@ use Rattle.cb_fields.specs.declared.links.Link.{Link as LinkOf}
 use Rattle.cb_fields.specs.declared.header.Contents.{Contents}
 use Rattle.cb_fields.specs.declared.header.Header.{Header}
 use Rattle.cb_fields.specs.declared.header.Header.TheVariants.{End, Bad, Plain, Link, Container}
-use Rattle.cb_fields.specs.Form.{fewer}
-use Rattle.cb_fields.specs.Header.{header}
-use Rattle.cb_fields.specs.Language.{link}
-use Rattle.cb_fields.specs.Walk.{Outcome, Fault, Cut}
+use Rattle.cb_fields.specs.Shape.{fewer}
+use Rattle.cb_fields.specs.inside.Header.{next_header}
+use Rattle.cb_fields.specs.Language.{attached_link}
+use Rattle.cb_fields.specs.inside.FieldWalk.{Outcome, Fault, Cut}
 
 -- the link at the end of n bytes
 abbrev pub last_link : LinkKind → ℕ → List ℕ → LinkOf
-last_link kind n bs = link kind (drop (n - 20) (take n bs))
+last_link kind n bs = attached_link kind (drop (n - 20) (take n bs))
 
 -- bs, whose first byte is at the place at, is to be contents; links came before; o is what comes of it
 pub data Reads : Contents → List ℕ → ℕ → List LinkOf → Outcome → Type 0 where
-  ended : {c : Contents} {bs : List ℕ} {at : ℕ} {links : List LinkOf} → header c bs ≡ End → Reads c bs at links (Cut links)
-  broken : {c : Contents} {bs : List ℕ} {at : ℕ} {links : List LinkOf} → header c bs ≡ Bad → Reads c bs at links (Fault at)
+  ended : {c : Contents} {bs : List ℕ} {at : ℕ} {links : List LinkOf} → next_header c bs ≡ End → Reads c bs at links (Cut links)
+  broken : {c : Contents} {bs : List ℕ} {at : ℕ} {links : List LinkOf} → next_header c bs ≡ Bad → Reads c bs at links (Fault at)
   past_plain : {c : Contents} {bs : List ℕ} {at : ℕ} {links : List LinkOf} {o : Outcome} (n : ℕ)
-      → header c bs ≡ Plain n → Reads (fewer c) (drop n bs) (at + n) links o → Reads c bs at links o
+      → next_header c bs ≡ Plain n → Reads (fewer c) (drop n bs) (at + n) links o → Reads c bs at links o
   past_link : {c : Contents} {bs : List ℕ} {at : ℕ} {links : List LinkOf} {o : Outcome} (kind : LinkKind) (n : ℕ)
-      → header c bs ≡ Link kind n → Reads (fewer c) (drop n bs) (at + n) (links ++ last_link kind n bs ∷ []) o → Reads c bs at links o
+      → next_header c bs ≡ Link kind n → Reads (fewer c) (drop n bs) (at + n) (links ++ last_link kind n bs ∷ []) o → Reads c bs at links o
   broken_inside : {c : Contents} {bs : List ℕ} {at : ℕ} {links : List LinkOf} {place : ℕ} (before size : ℕ) (inner : Contents)
-      → header c bs ≡ Container before size inner → Reads inner (take size (drop before bs)) (at + before) links (Fault place) → Reads c bs at links (Fault place)
+      → next_header c bs ≡ Container before size inner → Reads inner (take size (drop before bs)) (at + before) links (Fault place) → Reads c bs at links (Fault place)
   past_container : {c : Contents} {bs : List ℕ} {at : ℕ} {links : List LinkOf} {o : Outcome} (before size : ℕ) (inner : Contents) (more : List LinkOf)
-      → header c bs ≡ Container before size inner → Reads inner (take size (drop before bs)) (at + before) links (Cut more)
+      → next_header c bs ≡ Container before size inner → Reads inner (take size (drop before bs)) (at + before) links (Cut more)
       → Reads (fewer c) (drop (before + size) bs) (at + (before + size)) more o → Reads c bs at links o
 
 -- what comes after the contents of a container
@@ -42,7 +42,7 @@ Unfolds (Link kind n) c bs at links p = Reads (fewer c) (drop n bs) (at + n) (li
 Unfolds (Container before size inner) c bs at links p =
     (mid : Outcome) × Reads inner (take size (drop before bs)) (at + before) links mid × Goes (fewer c) (drop (before + size) bs) (at + (before + size)) mid p
 
-unfolds : {c : Contents} {bs : List ℕ} {at : ℕ} {links : List LinkOf} {p : Outcome} → Reads c bs at links p → Unfolds (header c bs) c bs at links p
+unfolds : {c : Contents} {bs : List ℕ} {at : ℕ} {links : List LinkOf} {p : Outcome} → Reads c bs at links p → Unfolds (next_header c bs) c bs at links p
 unfolds (ended is) = rw is refl
 unfolds (broken is) = rw is refl
 unfolds (past_plain n is r) = rw is r

@@ -6,7 +6,7 @@ use Rattle.std.proofs.lemmas.Bool.{ltb-false}
 use borrow.Author.Tests.{ltb-true}
 use Rattle.std.proofs.lemmas.Bool.Decides.{nat_tests}
 use Rattle.std.specs.Int.{bytes_high_first, byte_at}
-use Rattle.cb_fields.specs.Varuint.{followers, marked, spelled, IsVaruint}
+use Rattle.cb_fields.specs.Varuint.{followers, marked, big_endian_from, IsVaruint}
 use Rattle.cb_fields.specs.Needs.{width, lead, minimal}
 
 length-high : (k n : ℕ) → length (bytes_high_first k n) ≡ k
@@ -17,13 +17,13 @@ byte_is : (k n : ℕ) → byte_at k n ≡ n / 256 ^ k % 256
 byte_is zero n = omega arith
 byte_is (suc k) n = refl
 
-spelled_high : (k m n : ℕ) → spelled m (bytes_high_first k n) ≡ m * 256 ^ k + n % 256 ^ k
+spelled_high : (k m n : ℕ) → big_endian_from m (bytes_high_first k n) ≡ m * 256 ^ k + n % 256 ^ k
 spelled_high zero m n = omega arith
 spelled_high (suc k) m n =
     let p : 256 ^ (suc k) ≡ 256 * 256 ^ k = pow-suc 256 k ∙ mul_comm (256 ^ k) 256 in
     let q : n % (256 * 256 ^ k) ≡ (n / 256 ^ k % 256) * 256 ^ k + n % 256 ^ k = mod-mul n (omega arith) (one-le-pow k 256 (omega arith)) in
     let e : byte_at k n ≡ n / 256 ^ k % 256 = byte_is k n in
-    let r : spelled (m * 256 + byte_at k n) (bytes_high_first k n) ≡ (m * 256 + byte_at k n) * 256 ^ k + n % 256 ^ k = spelled_high k (m * 256 + byte_at k n) n in
+    let r : big_endian_from (m * 256 + byte_at k n) (bytes_high_first k n) ≡ (m * 256 + byte_at k n) * 256 ^ k + n % 256 ^ k = spelled_high k (m * 256 + byte_at k n) n in
     r ∙ (rw (e, p, q) (omega arith))
 
 -- the first byte of k more has the bits mark and then the number high

@@ -7,11 +7,11 @@ use Rattle.cb_fields.specs.declared.links.Link.{Link as LinkOf}
 use Rattle.cb_fields.specs.declared.header.Contents.{Contents}
 use Rattle.cb_fields.specs.declared.header.Header.{Header}
 use Rattle.cb_fields.specs.declared.header.Header.TheVariants.{End, Bad, Plain, Link, Container}
-use Rattle.cb_fields.specs.Form.{may_end, is_full, fewer}
-use Rattle.cb_fields.specs.Header.{shifted, rest_by, name_length, rest_header, begin, lasting, field_header, header}
-use Rattle.cb_fields.specs.Language.{link, Field, Whole, Spells, container, none, more}
+use Rattle.cb_fields.specs.Shape.{may_end, is_full, fewer}
+use Rattle.cb_fields.specs.inside.Header.{shifted, rest_by, name_length, rest_header, begin, lasting, field_header, next_header}
+use Rattle.cb_fields.specs.Language.{attached_link, Field, Whole, Spells, container, none, more}
 use Rattle.cb_fields.specs.Fault.{FirstFault, bad_header, inside, further, missing, left_over}
-use Rattle.cb_fields.specs.Walk.{Outcome, Fault, Cut, Comes}
+use Rattle.cb_fields.specs.inside.FieldWalk.{Outcome, Fault, Cut, Comes}
 use Rattle.cb_fields.proofs.Found.{FieldFound, OpensField, field_found, no_header}
 
 shifted_never : (k : ℕ) (h : Header) → shifted k h ≡ End → ⊥
@@ -65,17 +65,17 @@ full_case : (c : Contents) (bs : List ℕ) (flag : Bool) → is_full c.count ≡
 full_case c bs true e some = left_over e some
 full_case c bs false e some = field_case (field_header c.type_byte bs) c bs refl e some (field_found c.type_byte bs)
 
-pub header_found : (c : Contents) (bs : List ℕ) → HeaderFound (header c bs) c bs
-unfolding header
+pub header_found : (c : Contents) (bs : List ℕ) → HeaderFound (next_header c bs) c bs
+unfolding next_header
 header_found c [] = empty_case c (may_end c.count) refl
 header_found c (b ∷ bs) = full_case c (b ∷ bs) (is_full c.count) refl (zero-lt-suc (length bs))
 
-pub end_comes : (c : Contents) (bs : List ℕ) (at : ℕ) (links : List LinkOf) → header c bs ≡ End → Comes c bs at links (Cut links)
+pub end_comes : (c : Contents) (bs : List ℕ) (at : ℕ) (links : List LinkOf) → next_header c bs ≡ End → Comes c bs at links (Cut links)
 end_comes c bs at links is =
     let f : HeaderFound End c bs = rw is at (header_found c bs) in
     ([], rw f.0 (none f.1), sym (append-nil links))
 
-pub bad_comes : (c : Contents) (bs : List ℕ) (at : ℕ) (links : List LinkOf) → header c bs ≡ Bad → Comes c bs at links (Fault at)
+pub bad_comes : (c : Contents) (bs : List ℕ) (at : ℕ) (links : List LinkOf) → next_header c bs ≡ Bad → Comes c bs at links (Fault at)
 bad_comes c bs at links is =
     let f : HeaderFound Bad c bs = rw is at (header_found c bs) in
     (0, f, omega arith)
@@ -94,17 +94,17 @@ field_comes c bs at n links ls (Cut all) e within s r =
     let m : Spells (Whole c) (take n bs ++ drop n bs) (ls ++ r.0) = more (take n bs) (drop n bs) ls r.0 e s r.1 in
     (ls ++ r.0, rw cut at m, r.2 ∙ append_assoc links ls r.0)
 
-pub plain_comes : (c : Contents) (bs : List ℕ) (at n : ℕ) (links : List LinkOf) (o : Outcome) → header c bs ≡ Plain n → Comes (fewer c) (drop n bs) (at + n) links o → Comes c bs at links o
+pub plain_comes : (c : Contents) (bs : List ℕ) (at n : ℕ) (links : List LinkOf) (o : Outcome) → next_header c bs ≡ Plain n → Comes (fewer c) (drop n bs) (at + n) links o → Comes c bs at links o
 plain_comes c bs at n links o is r =
     let f : HeaderFound (Plain n) c bs = rw is at (header_found c bs) in
     let same : links ++ [] ≡ links = append-nil links in
     field_comes c bs at n links [] o f.0 f.1.0 f.1.1 (rw same r)
 
-pub link_comes : (c : Contents) (bs : List ℕ) (at n : ℕ) (kind : LinkKind) (links : List LinkOf) (o : Outcome) → header c bs ≡ Link kind n
-    → Comes (fewer c) (drop n bs) (at + n) (links ++ link kind (drop (n - 20) (take n bs)) ∷ []) o → Comes c bs at links o
+pub link_comes : (c : Contents) (bs : List ℕ) (at n : ℕ) (kind : LinkKind) (links : List LinkOf) (o : Outcome) → next_header c bs ≡ Link kind n
+    → Comes (fewer c) (drop n bs) (at + n) (links ++ attached_link kind (drop (n - 20) (take n bs)) ∷ []) o → Comes c bs at links o
 link_comes c bs at n kind links o is r =
     let f : HeaderFound (Link kind n) c bs = rw is at (header_found c bs) in
-    field_comes c bs at n links (link kind (drop (n - 20) (take n bs)) ∷ []) o f.0 f.1.1 f.1.2 r
+    field_comes c bs at n links (attached_link kind (drop (n - 20) (take n bs)) ∷ []) o f.0 f.1.1 f.1.2 r
 
 -- a container's field and what follows it are all the bytes
 pub opened_whole : (type_byte : Option ℕ) (bs : List ℕ) (before size : ℕ) (inner : Contents) → (o : OpensField type_byte (take before bs) (take size (drop before bs)) inner)
@@ -114,7 +114,7 @@ opened_whole type_byte bs before size inner o =
     let b : take size (drop before bs) ++ drop (before + size) bs ≡ drop before bs = rw (sym (drop-drop size before bs)) (take-append-drop size (drop before bs)) in
     a ∙ rw (sym o.is, b) (take-append-drop before bs)
 
-pub inner_fault_comes : (c inner : Contents) (bs : List ℕ) (at before size place : ℕ) (links : List LinkOf) → header c bs ≡ Container before size inner
+pub inner_fault_comes : (c inner : Contents) (bs : List ℕ) (at before size place : ℕ) (links : List LinkOf) → next_header c bs ≡ Container before size inner
     → Comes inner (take size (drop before bs)) (at + before) links (Fault place) → Comes c bs at links (Fault place)
 inner_fault_comes c inner bs at before size place links is r =
     let f : HeaderFound (Container before size inner) c bs = rw is at (header_found c bs) in
@@ -127,7 +127,7 @@ inner_fault_comes c inner bs at before size place links is r =
     let h : FirstFault c bs (length o.start + (length o.front + r.0)) = rw cut at g in
     (length o.start + (length o.front + r.0), h, omega (arith, r.2, sum))
 
-pub within_comes : (c inner : Contents) (bs : List ℕ) (at before size : ℕ) (links more_links : List LinkOf) (o : Outcome) → header c bs ≡ Container before size inner
+pub within_comes : (c inner : Contents) (bs : List ℕ) (at before size : ℕ) (links more_links : List LinkOf) (o : Outcome) → next_header c bs ≡ Container before size inner
     → Comes inner (take size (drop before bs)) (at + before) links (Cut more_links) → Comes (fewer c) (drop (before + size) bs) (at + (before + size)) more_links o → Comes c bs at links o
 within_comes c inner bs at before size links more_links o is r next =
     let f : HeaderFound (Container before size inner) c bs = rw is at (header_found c bs) in

@@ -3,7 +3,7 @@ use Rattle.std.proofs.Common.{◌≡◌, ℕ, ◌^◌, ◌<◌, ◌≤◌, List,
 use Rattle.std.proofs.Math.Seq.{take-append_seam, drop-append_seam}
 use Rattle.ddc_names.specs.declared.hash.IoHash.{IoHash}
 use Rattle.cb_fields.specs.Varuint.{varuint_at}
-use Rattle.cb_fields.specs.Needs.{minimal, with_size, joined, needs_field, needs_object, AreHashes}
+use Rattle.cb_fields.specs.Needs.{minimal, with_size, hash_bytes, needs_field, needs_object, AreHashes}
 use Rattle.cb_fields.proofs.Front.{varuint_read}
 use Rattle.cb_fields.proofs.Shortest.{minimal_spells}
 
@@ -33,33 +33,33 @@ size_told xs ys small fits e = (number_told (length xs) (length ys) xs ys small 
 hash_told : (h g : IoHash) → h.0 ≡ g.0 → h ≡ g
 hash_told h g e = ap (λ (bytes : List ℕ). let hash : IoHash = record { 0 = bytes } in hash) e
 
-joined_told : (hs gs : List IoHash) → AreHashes hs → AreHashes gs → length hs ≡ length gs → joined hs ≡ joined gs → hs ≡ gs
+joined_told : (hs gs : List IoHash) → AreHashes hs → AreHashes gs → length hs ≡ length gs → hash_bytes hs ≡ hash_bytes gs → hs ≡ gs
 joined_told [] [] a b n e = refl
 joined_told [] (g ∷ gs) a b n e = absurd (omega arith)
 joined_told (h ∷ hs) [] a b n e = absurd (omega arith)
 joined_told (h ∷ hs) (g ∷ gs) a b n e =
     let len : length h.0 ≡ length g.0 = a.0 ∙ sym b.0 in
-    let front : take (length h.0) (g.0 ++ joined gs) ≡ g.0 = rw len (take-append_seam g.0 (joined gs)) in
-    let same : h.0 ≡ g.0 = sym (take-append_seam h.0 (joined hs)) ∙ ap (take (length h.0)) e ∙ front in
-    let behind : h.0 ++ joined hs ≡ h.0 ++ joined gs = rw (sym same) at e in
+    let front : take (length h.0) (g.0 ++ hash_bytes gs) ≡ g.0 = rw len (take-append_seam g.0 (hash_bytes gs)) in
+    let same : h.0 ≡ g.0 = sym (take-append_seam h.0 (hash_bytes hs)) ∙ ap (take (length h.0)) e ∙ front in
+    let behind : h.0 ++ hash_bytes hs ≡ h.0 ++ hash_bytes gs = rw (sym same) at e in
     let fewer : length hs ≡ length gs = omega arith in
-    let rest : hs ≡ gs = joined_told hs gs a.1 b.1 fewer (same_front h.0 (joined hs) (joined gs) behind) in
+    let rest : hs ≡ gs = joined_told hs gs a.1 b.1 fewer (same_front h.0 (hash_bytes hs) (hash_bytes gs) behind) in
     rw (hash_told h g same, rest) refl
 
-few_hashes : (hs : List IoHash) → AreHashes hs → length hs ≤ length (joined hs)
+few_hashes : (hs : List IoHash) → AreHashes hs → length hs ≤ length (hash_bytes hs)
 few_hashes [] a = omega arith
 few_hashes (h ∷ hs) a = rw length-append (omega (arith, a.0, few_hashes hs a.1))
 
 -- the count, the type byte and the hashes
 abbrev inside : List IoHash → List ℕ
-inside hs = minimal (length hs) ++ 0x10 ∷ joined hs
+inside hs = minimal (length hs) ++ 0x10 ∷ hash_bytes hs
 
 inside_told : (hs gs : List IoHash) → AreHashes hs → AreHashes gs → length (inside hs) < 2 ^ 64 → length (inside gs) < 2 ^ 64 → inside hs ≡ inside gs → hs ≡ gs
 inside_told hs gs a b small fits e =
-    let few : length hs < 2 ^ 64 = omega (arith, small, few_hashes hs a, length-append (minimal (length hs)) (0x10 ∷ joined hs)) in
-    let fewer : length gs < 2 ^ 64 = omega (arith, fits, few_hashes gs b, length-append (minimal (length gs)) (0x10 ∷ joined gs)) in
-    let same = number_told (length hs) (length gs) (0x10 ∷ joined hs) (0x10 ∷ joined gs) few fewer e in
-    let rest : joined hs ≡ joined gs = ap (drop 1) same.1 in
+    let few : length hs < 2 ^ 64 = omega (arith, small, few_hashes hs a, length-append (minimal (length hs)) (0x10 ∷ hash_bytes hs)) in
+    let fewer : length gs < 2 ^ 64 = omega (arith, fits, few_hashes gs b, length-append (minimal (length gs)) (0x10 ∷ hash_bytes gs)) in
+    let same = number_told (length hs) (length gs) (0x10 ∷ hash_bytes hs) (0x10 ∷ hash_bytes gs) few fewer e in
+    let rest : hash_bytes hs ≡ hash_bytes gs = ap (drop 1) same.1 in
     joined_told hs gs a b same.0 rest
 
 field_told : (hs gs : List IoHash) → AreHashes hs → AreHashes gs → length (needs_field hs) < 2 ^ 64 → length (needs_field gs) < 2 ^ 64 → needs_field hs ≡ needs_field gs → hs ≡ gs

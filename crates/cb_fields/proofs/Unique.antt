@@ -6,31 +6,31 @@ use Rattle.cb_fields.specs.declared.links.Link.{Link as LinkOf}
 use Rattle.cb_fields.specs.declared.header.Contents.{Contents}
 use Rattle.cb_fields.specs.declared.header.Header.{Header}
 use Rattle.cb_fields.specs.declared.header.Header.TheVariants.{End, Bad, Plain, Link, Container}
-use Rattle.cb_fields.specs.Form.{may_end, is_full, fewer}
-use Rattle.cb_fields.specs.Header.{field_header, header}
-use Rattle.cb_fields.specs.Language.{link, Class, Field, Whole, Spells, plain, container, none, more}
+use Rattle.cb_fields.specs.Shape.{may_end, is_full, fewer}
+use Rattle.cb_fields.specs.inside.Header.{field_header, next_header}
+use Rattle.cb_fields.specs.Language.{attached_link, Class, Field, Whole, Spells, plain, container, none, more}
 use Rattle.cb_fields.specs.Fault.{HasHeader, plain_field, container_field, FirstFault, bad_header, inside, further, missing, left_over}
-use Rattle.cb_fields.specs.Walk.{Outcome, Fault, Cut}
+use Rattle.cb_fields.specs.inside.FieldWalk.{Outcome, Fault, Cut}
 use Rattle.cb_fields.proofs.Front.{Takes, plain_header, container_field_header, plain_some_bytes, opens_some}
 use Rattle.cb_fields.proofs.Found.{OpensField}
 use Rattle.cb_fields.proofs.Steps.{HeaderFound, header_found, opened_whole}
 use Rattle.cb_fields.proofs.Reading.{Reads, ended, broken, past_plain, past_link, broken_inside, past_container}
 
-header_some : (c : Contents) (bs : List ℕ) → is_full c.count ≡ false → 0 < length bs → header c bs ≡ field_header c.type_byte bs
-unfolding header
+header_some : (c : Contents) (bs : List ℕ) → is_full c.count ≡ false → 0 < length bs → next_header c bs ≡ field_header c.type_byte bs
+unfolding next_header
 header_some c [] e some = absurd (omega arith)
 header_some c (b ∷ bs) e some = rw e refl
 
-header_end : (c : Contents) → may_end c.count ≡ true → header c [] ≡ End
-unfolding header
+header_end : (c : Contents) → may_end c.count ≡ true → next_header c [] ≡ End
+unfolding next_header
 header_end c m = rw m refl
 
-header_missing : (c : Contents) → may_end c.count ≡ false → header c [] ≡ Bad
-unfolding header
+header_missing : (c : Contents) → may_end c.count ≡ false → next_header c [] ≡ Bad
+unfolding next_header
 header_missing c m = rw m refl
 
-header_left : (c : Contents) (bs : List ℕ) → is_full c.count ≡ true → 0 < length bs → header c bs ≡ Bad
-unfolding header
+header_left : (c : Contents) (bs : List ℕ) → is_full c.count ≡ true → 0 < length bs → next_header c bs ≡ Bad
+unfolding next_header
 header_left c [] e some = absurd (omega arith)
 header_left c (b ∷ bs) e some = rw e refl
 
@@ -39,7 +39,7 @@ abbrev pub Passes : Header → List ℕ → List LinkOf → Type 0
 Passes End f ls = ⊥
 Passes Bad f ls = ⊥
 Passes (Plain k) f ls = (k ≡ length f) × (ls ≡ [])
-Passes (Link kind k) f ls = (k ≡ length f) × (20 ≤ k) × (ls ≡ link kind (drop (k - 20) f) ∷ [])
+Passes (Link kind k) f ls = (k ≡ length f) × (20 ≤ k) × (ls ≡ attached_link kind (drop (k - 20) f) ∷ [])
 Passes (Container before size inner) f ls =
     (before + size ≡ length f) × ((at : ℕ) (links : List LinkOf) → Reads inner (take size (drop before f)) at links (Cut (links ++ ls)))
 
@@ -51,7 +51,7 @@ takes_passes (Link kind k) f ls t = t
 takes_passes (Container before size inner) f ls t = absurd t
 
 -- on, after a field that is passed
-go_on : (c : Contents) (f fs : List ℕ) (ls links : List LinkOf) (at : ℕ) (o : Outcome) (h : Header) → header c (f ++ fs) ≡ h → Passes h f ls
+go_on : (c : Contents) (f fs : List ℕ) (ls links : List LinkOf) (at : ℕ) (o : Outcome) (h : Header) → next_header c (f ++ fs) ≡ h → Passes h f ls
     → Reads (fewer c) fs (at + length f) (links ++ ls) o → Reads c (f ++ fs) at links o
 go_on c f fs ls links at o End is p r = absurd p
 go_on c f fs ls links at o Bad is p r = absurd p
@@ -63,7 +63,7 @@ go_on c f fs ls links at o (Plain k) is p r =
 go_on c f fs ls links at o (Link kind k) is p r =
     let d : drop k (f ++ fs) ≡ fs = rw (p.0, drop-append_seam) refl in
     let t : take k (f ++ fs) ≡ f = rw (p.0, take-append_seam) refl in
-    let g : links ++ link kind (drop (k - 20) (take k (f ++ fs))) ∷ [] ≡ links ++ ls = rw (t, p.2) refl in
+    let g : links ++ attached_link kind (drop (k - 20) (take k (f ++ fs))) ∷ [] ≡ links ++ ls = rw (t, p.2) refl in
     let q : Reads (fewer c) fs (at + k) (links ++ ls) o = rw (sym p.0) at r in
     past_link kind k is (rw (d, g) q)
 go_on c f fs ls links at o (Container before size inner) is p r =
@@ -100,7 +100,7 @@ spells_read (container {type_byte = type_byte} {t = t} {links = ls} start front 
 spells_read (none {contents = c} m) = λ at links. rw append-nil (ended (header_end c m))
 spells_read (more {contents = c} f fs ls ms e a b) = λ at links.
     (let r = spells_read a fs in
-    let is : header c (f ++ fs) ≡ field_header c.type_byte (f ++ fs) = header_some c (f ++ fs) e (some_append f fs r.1) in
+    let is : next_header c (f ++ fs) ≡ field_header c.type_byte (f ++ fs) = header_some c (f ++ fs) e (some_append f fs r.1) in
     let rest : Reads (fewer c) fs (at + length f) (links ++ ls) (Cut ((links ++ ls) ++ ms)) = spells_read b (at + length f) (links ++ ls) in
     let sum : (links ++ ls) ++ ms ≡ links ++ (ls ++ ms) = append_assoc links ls ms in
     go_on c f fs ls links at (Cut (links ++ (ls ++ ms))) (field_header c.type_byte (f ++ fs)) is r.0 (rw sum at rest))
@@ -132,18 +132,18 @@ found_stands (Container before size inner) c bs some absent f =
 pub fault_read : {c : Contents} {bs : List ℕ} {n : ℕ} → FirstFault c bs n → (at : ℕ) (links : List LinkOf) → Reads c bs at links (Fault (at + n))
 fault_read (bad_header {contents = c} {bytes = bs} e some absent) at links =
     let same : at + 0 ≡ at = omega arith in
-    rw same (broken (found_stands (header c bs) c bs some absent (header_found c bs)))
+    rw same (broken (found_stands (next_header c bs) c bs some absent (header_found c bs)))
 fault_read (inside {outer = c} {inner = inner} {t = t} {at = n} start front xs others e s o f) at links =
     let cut : start ++ (front ++ (xs ++ others)) ≡ (start ++ front) ++ (xs ++ others) = sym (append_assoc start front (xs ++ others)) in
     let some : 0 < length (start ++ (front ++ (xs ++ others))) = simp length-append (omega (arith, opens_some o)) in
-    let is : header c (start ++ (front ++ (xs ++ others))) ≡ Container (length (start ++ front)) (length xs) inner =
+    let is : next_header c (start ++ (front ++ (xs ++ others))) ≡ Container (length (start ++ front)) (length xs) inner =
     header_some c _ e some ∙ container_field_header s o others in
     let part : take (length xs) (drop (length (start ++ front)) (start ++ (front ++ (xs ++ others)))) ≡ xs = rw (cut, drop-append_seam, take-append_seam) refl in
     let place : at + (length start + (length front + n)) ≡ at + length (start ++ front) + n = rw length-append (omega arith) in
     rw place (broken_inside {at = at} {links = links} {place = at + length (start ++ front) + n} (length (start ++ front)) (length xs) inner is (rw part (fault_read f (at + length (start ++ front)) links)))
 fault_read (further {contents = c} {at = n} f fs ls e a b) at links =
     let r = spells_read a fs in
-    let is : header c (f ++ fs) ≡ field_header c.type_byte (f ++ fs) = header_some c (f ++ fs) e (some_append f fs r.1) in
+    let is : next_header c (f ++ fs) ≡ field_header c.type_byte (f ++ fs) = header_some c (f ++ fs) e (some_append f fs r.1) in
     let place : at + (length f + n) ≡ at + length f + n = omega arith in
     rw place (go_on c f fs ls links at (Fault (at + length f + n)) (field_header c.type_byte (f ++ fs)) is r.0 (fault_read b (at + length f) (links ++ ls)))
 fault_read (missing {contents = c} m) at links =

@@ -2,15 +2,15 @@
 use Rattle.std.specs.Prelude.{◌≡◌, ℕ, ◌+◌, ◌%◌, ◌<◌, Bool, true, false, Option, List, [], ◌++◌, length}
 use Rattle.cb_fields.specs.declared.links.Link.{Link}
 use Rattle.cb_fields.specs.declared.header.Contents.{Contents}
-use Rattle.cb_fields.specs.Form.{form, counted, may_end, is_full, fewer}
+use Rattle.cb_fields.specs.Shape.{shape, counted, may_end, is_full, fewer}
 use Rattle.cb_fields.specs.Language.{IsStart, IsPlain, Opens, Field, Spells, starts_object}
 
 -- a field's own header stands at the front: all of a plain field, or what comes before a container's contents with as many bytes after it as the size counts
 pub data HasHeader : Option ℕ → List ℕ → Type 0 where
-  plain_field : {type_byte : Option ℕ} {t : ℕ} {links : List Link} (start p others : List ℕ) → IsStart type_byte t start → IsPlain (form (t % 0x80)) p links
+  plain_field : {type_byte : Option ℕ} {t : ℕ} {links : List Link} (start p others : List ℕ) → IsStart type_byte t start → IsPlain (shape (t % 0x80)) p links
       → HasHeader type_byte (start ++ (p ++ others))
   container_field : {type_byte : Option ℕ} {t : ℕ} {contents : Contents} (start front xs others : List ℕ) → IsStart type_byte t start
-      → Opens (form (t % 0x80)) front xs contents → HasHeader type_byte (start ++ (front ++ (xs ++ others)))
+      → Opens (shape (t % 0x80)) front xs contents → HasHeader type_byte (start ++ (front ++ (xs ++ others)))
 
 -- where the bytes of a container, which are to be contents, first break the rules
 pub data FirstFault : Contents → List ℕ → ℕ → Type 0 where
@@ -19,7 +19,7 @@ pub data FirstFault : Contents → List ℕ → ℕ → Type 0 where
       → FirstFault contents bytes 0
   -- inside a field that is a container
   inside : {outer inner : Contents} {t at : ℕ} (start front xs others : List ℕ) → is_full outer.count ≡ false → IsStart outer.type_byte t start
-      → Opens (form (t % 0x80)) front xs inner → FirstFault inner xs at → FirstFault outer (start ++ (front ++ (xs ++ others))) (length start + (length front + at))
+      → Opens (shape (t % 0x80)) front xs inner → FirstFault inner xs at → FirstFault outer (start ++ (front ++ (xs ++ others))) (length start + (length front + at))
   -- after a field that keeps the rules
   further : {contents : Contents} {at : ℕ} (f fs : List ℕ) (links : List Link) → is_full contents.count ≡ false → Spells (Field contents.type_byte) f links
       → FirstFault (fewer contents) fs at → FirstFault contents (f ++ fs) (length f + at)

@@ -1,8 +1,8 @@
 pub mod Varuint
-pub mod Form
+pub mod Shape
 pub mod Language
 pub mod Fault
 pub mod Objects
 pub mod Needs
-pub mod Header
-pub mod Walk
+pub mod Laws
+pub mod inside

@@ -34,14 +34,14 @@ minimal n = lead n ∷ drop (8 - width n) (to_be_bytes w64 n)
 abbrev pub with_size : List ℕ → List ℕ
 with_size bs = minimal (length bs) ++ bs
 
-abbrev pub joined : List IoHash → List ℕ
-joined [] = []
-joined (h ∷ hs) = h.0 ++ joined hs
+abbrev pub hash_bytes : List IoHash → List ℕ
+hash_bytes [] = []
+hash_bytes (h ∷ hs) = h.0 ++ hash_bytes hs
 
 -- the field named needs: an empty Array, or a UniformArray of Hash (code 10)
 abbrev pub needs_field : List IoHash → List ℕ
 needs_field [] = 0x84 ∷ 5 ∷ 0x6e ∷ 0x65 ∷ 0x65 ∷ 0x64 ∷ 0x73 ∷ 1 ∷ 0 ∷ []
-needs_field (h ∷ hs) = 0x85 ∷ 5 ∷ 0x6e ∷ 0x65 ∷ 0x65 ∷ 0x64 ∷ 0x73 ∷ with_size (minimal (length (h ∷ hs)) ++ 0x10 ∷ joined (h ∷ hs))
+needs_field (h ∷ hs) = 0x85 ∷ 5 ∷ 0x6e ∷ 0x65 ∷ 0x65 ∷ 0x64 ∷ 0x73 ∷ with_size (minimal (length (h ∷ hs)) ++ 0x10 ∷ hash_bytes (h ∷ hs))
 
 -- the object without a name of that field
 abbrev pub needs_object : List IoHash → List ℕ

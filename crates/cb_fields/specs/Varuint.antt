@@ -26,17 +26,17 @@ marked b =
     if nat_lt b 0xff then 0xfe else 0xff
 
 -- the number whose front is n and whose other bytes, big-endian, are these
-abbrev pub spelled : ℕ → List ℕ → ℕ
-spelled n [] = n
-spelled n (b ∷ bs) = spelled (n * 0x100 + b) bs
+abbrev pub big_endian_from : ℕ → List ℕ → ℕ
+big_endian_from n [] = n
+big_endian_from n (b ∷ bs) = big_endian_from (n * 0x100 + b) bs
 
 -- the bytes spell n: as many follow the first as it says, and its other bits and those bytes are n
 abbrev pub IsVaruint : ℕ → List ℕ → Type 0
 IsVaruint n [] = ⊥
-IsVaruint n (b ∷ bs) = (length bs ≡ followers b) × (n ≡ spelled (b - marked b) bs)
+IsVaruint n (b ∷ bs) = (length bs ≡ followers b) × (n ≡ big_endian_from (b - marked b) bs)
 
 -- the number at the front and how many bytes spell it; none where the bytes end before it does
 abbrev pub varuint_at : List ℕ → Option (ℕ × ℕ)
 varuint_at [] = None
 varuint_at (b ∷ bs) =
-    if nat_lt (length bs) (followers b) then None else Some (spelled (b - marked b) (take (followers b) bs), 1 + followers b)
+    if nat_lt (length bs) (followers b) then None else Some (big_endian_from (b - marked b) (take (followers b) bs), 1 + followers b)

@@ -4,8 +4,8 @@ ghost use Rattle.std.specs.Prelude.{◌≡◌, IfOk};
 ghost use Rattle.cb_fields.specs.Language.{starts_object, HasLinks};
 ghost use Rattle.cb_fields.specs.Objects.{ChecksAs};
 
+use crate::field_walk::{FieldWalk, Step};
 use crate::links::Link;
-use crate::walk::{Step, Walk};
 use ddc_names::{NoMemory, Rows};
 use std::alloc::Global;
 
@@ -43,7 +43,7 @@ pub fn check_object(alloc: Global, bytes: &[u8]) -> Result<(), CbFault>
     if !starts_as_object(bytes) {
         return Err(CbFault::NotObject { at: 0 });
     }
-    let mut walk = Walk::new(alloc, bytes);
+    let mut walk = FieldWalk::new(alloc, bytes);
     loop {
         match walk.advance(bytes) {
             Ok(Step::Moved) => {}
@@ -63,7 +63,7 @@ pub fn links_of(alloc: Global, bytes: &[u8]) -> Result<Rows<Link>, NoMemory>
     if !starts_as_object(bytes) {
         return Ok(links);
     }
-    let mut walk = Walk::new(alloc, bytes);
+    let mut walk = FieldWalk::new(alloc, bytes);
     loop {
         match walk.advance(bytes)? {
             Step::Moved => {}

@@ -2,11 +2,11 @@
 //! inlined into the walk's step.
 
 ghost use Rattle.std.specs.Prelude.{◌≡◌, ℕ, ◌+◌, ◌^◌, ◌<◌, ◌≤◌, length, IfSome};
-ghost use Rattle.cb_fields.specs.Form.{fewer, rests};
-ghost use Rattle.cb_fields.specs.Header.{sized, name_length, extent, shifted, uniform_inside, inside, container_header, payload, rest_header, lasting, header, Moves, Holds};
+ghost use Rattle.cb_fields.specs.Shape.{fewer, rests};
+ghost use Rattle.cb_fields.specs.inside.Header.{sized, name_length, extent, shifted, uniform_inside, inside, container_header, payload, rest_header, lasting, next_header, Moves, HasLinkHash};
 
-use crate::form::{Form, form_of, is_allowed_type};
 use crate::links::LinkKind;
+use crate::shape::{Shape, is_allowed_type, shape_of};
 use crate::varuint::read_varuint;
 
 /// What may stand in a container.
@@ -47,7 +47,7 @@ impl Contents {
     }
 
     // Fields without a type byte. Where they have no bytes at all they are no contents.
-    #[tactic(auto, unfolding(crate::specs::Form::rests))]
+    #[tactic(auto, unfolding(crate::specs::Shape::rests))]
     fn rests_of(type_byte: u8, count: Option<u64>) -> Contents
         ensures { result ≡ rests type_byte count }
     {
@@ -84,8 +84,8 @@ impl Header {
     fn shift(self, more: usize) -> Header
         requires { more + extent self < 2 ^ 64 }
         ensures value { result ≡ shifted more self }
-        ensures holds { Holds self → Holds result }
-        ensures moves { (n : ℕ) → Holds self → 0 < more → more + extent self ≤ n → 0 < n → Moves n result }
+        ensures holds { HasLinkHash self → HasLinkHash result }
+        ensures moves { (n : ℕ) → HasLinkHash self → 0 < more → more + extent self ≤ n → 0 < n → Moves n result }
         ensures extent { extent result ≤ more + extent self }
     {
         match self {
@@ -101,11 +101,11 @@ impl Header {
     }
 
     // Refuses a field that has no bytes.
-    #[tactic(auto, unfolding(crate::specs::Header::lasting))]
+    #[tactic(auto, unfolding(crate::specs::inside::Header::lasting))]
     #[inline(always)]
     fn last(self) -> Header
         ensures value { result ≡ lasting self }
-        ensures moves { (n : ℕ) → Holds self → extent self ≤ n → 0 < n → Moves n result }
+        ensures moves { (n : ℕ) → HasLinkHash self → extent self ≤ n → 0 < n → Moves n result }
     {
         match self {
             Header::End
@@ -119,7 +119,7 @@ impl Header {
 }
 
 // How many bytes spell the size at the front, and the size, where that many bytes follow it.
-#[tactic(auto, unfolding(crate::specs::Header::sized))]
+#[tactic(auto, unfolding(crate::specs::inside::Header::sized))]
 #[inline(always)]
 fn read_sized(bytes: &[u8]) -> Option<(usize, usize)>
     ensures value { result ≡ sized bytes.now }
@@ -134,10 +134,10 @@ fn read_sized(bytes: &[u8]) -> Option<(usize, usize)>
 }
 
 // The inside of a uniform container, after its count.
-#[tactic(auto, unfolding(crate::specs::Header::uniform_inside))]
+#[tactic(auto, unfolding(crate::specs::inside::Header::uniform_inside))]
 fn uniform_inside_of(count: Option<u64>, bytes: &[u8]) -> Header
     ensures value { result ≡ uniform_inside count bytes.now }
-    ensures holds { Holds result }
+    ensures holds { HasLinkHash result }
     ensures within { extent result ≤ length bytes.now }
 {
     match bytes {
@@ -156,16 +156,16 @@ fn uniform_inside_of(count: Option<u64>, bytes: &[u8]) -> Header
 }
 
 // The bytes that a container's size counts.
-#[tactic(auto, unfolding(crate::specs::Header::inside))]
-fn inside_of(form: Form, bytes: &[u8]) -> Header
-    ensures value { result ≡ inside form bytes.now }
-    ensures holds { Holds result }
+#[tactic(auto, unfolding(crate::specs::inside::Header::inside))]
+fn inside_of(shape: Shape, bytes: &[u8]) -> Header
+    ensures value { result ≡ inside shape bytes.now }
+    ensures holds { HasLinkHash result }
     ensures within { extent result ≤ length bytes.now }
 {
-    match form {
-        Form::Fields => Header::Container(0, bytes.len(), Contents::ANY),
-        Form::UniformFields => uniform_inside_of(None, bytes),
-        Form::Array => match read_varuint(bytes) {
+    match shape {
+        Shape::Fields => Header::Container(0, bytes.len(), Contents::ANY),
+        Shape::UniformFields => uniform_inside_of(None, bytes),
+        Shape::Array => match read_varuint(bytes) {
             None => Header::Bad,
             Some((count, len)) => Header::Container(
                 len,
@@ -176,67 +176,66 @@ fn inside_of(form: Form, bytes: &[u8]) -> Header
                 },
             ),
         },
-        Form::UniformArray => match read_varuint(bytes) {
+        Shape::UniformArray => match read_varuint(bytes) {
             None => Header::Bad,
             Some((count, len)) => uniform_inside_of(Some(count), &bytes[len..]).shift(len),
         },
-        Form::Refused | Form::Fixed(_) | Form::Attachment(_) | Form::Number | Form::Sized =>
-            Header::Bad,
+        _ => Header::Bad,
     }
 }
 
 // A container's payload: its size, and its inside.
 #[inline(never)]
-fn container_of(form: Form, bytes: &[u8]) -> Header
-    ensures value { result ≡ container_header form bytes.now (sized bytes.now) }
-    ensures holds { Holds result }
+fn container_of(shape: Shape, bytes: &[u8]) -> Header
+    ensures value { result ≡ container_header shape bytes.now (sized bytes.now) }
+    ensures holds { HasLinkHash result }
     ensures within { extent result ≤ length bytes.now }
 {
     match read_sized(bytes) {
         None => Header::Bad,
         Some((len, size)) => {
             let after = &bytes[len..];
-            inside_of(form, &after[..size]).shift(len)
+            inside_of(shape, &after[..size]).shift(len)
         }
     }
 }
 
 // The payload of a form.
-#[tactic(auto, unfolding(crate::specs::Header::payload))]
+#[tactic(auto, unfolding(crate::specs::inside::Header::payload))]
 #[inline(always)]
-fn payload_of(form: Form, bytes: &[u8]) -> Header
-    ensures value { result ≡ payload form bytes.now }
-    ensures holds { Holds result }
+fn payload_of(shape: Shape, bytes: &[u8]) -> Header
+    ensures value { result ≡ payload shape bytes.now }
+    ensures holds { HasLinkHash result }
     ensures within { extent result ≤ length bytes.now }
 {
-    match form {
-        Form::Refused => Header::Bad,
-        Form::Fixed(len) => if bytes.len() < len {
+    match shape {
+        Shape::Refused => Header::Bad,
+        Shape::Fixed(len) => if bytes.len() < len {
             Header::Bad
         } else {
             Header::Plain(len)
         },
-        Form::Attachment(kind) => if bytes.len() < 20 {
+        Shape::Attachment(kind) => if bytes.len() < 20 {
             Header::Bad
         } else {
             Header::Link(kind, 20)
         },
-        Form::Number => match read_varuint(bytes) {
+        Shape::Number => match read_varuint(bytes) {
             None => Header::Bad,
             Some((_, len)) => Header::Plain(len),
         },
-        Form::Sized => match read_sized(bytes) {
+        Shape::Sized => match read_sized(bytes) {
             None => Header::Bad,
             Some((len, size)) => Header::Plain(len + size),
         },
-        Form::Fields | Form::UniformFields | Form::Array | Form::UniformArray => container_of(
-            form, bytes,
+        Shape::Fields | Shape::UniformFields | Shape::Array | Shape::UniformArray => container_of(
+            shape, bytes,
         ),
     }
 }
 
 // How many bytes the name takes with its length, where flag 80 asks for one.
-#[tactic(auto, unfolding(crate::specs::Header::name_length))]
+#[tactic(auto, unfolding(crate::specs::inside::Header::name_length))]
 #[inline(always)]
 fn name_length_of(type_byte: u8, bytes: &[u8]) -> Option<usize>
     ensures value { result ≡ name_length type_byte bytes.now }
@@ -253,24 +252,24 @@ fn name_length_of(type_byte: u8, bytes: &[u8]) -> Option<usize>
 }
 
 // The name and the payload of a type byte.
-#[tactic(auto, unfolding(crate::specs::Header::rest_header))]
+#[tactic(auto, unfolding(crate::specs::inside::Header::rest_header))]
 #[inline(always)]
 fn rest_of(type_byte: u8, bytes: &[u8]) -> Header
     ensures value { result ≡ rest_header type_byte bytes.now }
-    ensures holds { Holds result }
+    ensures holds { HasLinkHash result }
     ensures within { extent result ≤ length bytes.now }
 {
     match name_length_of(type_byte, bytes) {
         None => Header::Bad,
-        Some(len) => payload_of(form_of(type_byte % 0x80), &bytes[len..]).shift(len),
+        Some(len) => payload_of(shape_of(type_byte % 0x80), &bytes[len..]).shift(len),
     }
 }
 
 /// What stands at the front of `bytes`, which are left of a container and may still be `contents`.
-#[tactic(auto, unfolding(crate::specs::Header::header))]
+#[tactic(auto, unfolding(crate::specs::inside::Header::next_header))]
 #[inline(always)]
 pub fn header_of(contents: Contents, bytes: &[u8]) -> Header
-    ensures value { result ≡ header contents bytes.now }
+    ensures value { result ≡ next_header contents bytes.now }
     ensures moves { Moves (length bytes.now) result }
 {
     match bytes {

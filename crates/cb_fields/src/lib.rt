@@ -6,18 +6,21 @@
 #![tactic(auto)]
 
 mod check;
-mod form;
+mod field_walk;
 mod header;
+mod laws;
 mod links;
 mod needs;
-#[cfg(test)]
-mod plain;
+mod shape;
 #[cfg(test)]
 mod tests;
 mod varuint;
-mod walk;
 
 pub use check::{CbFault, check_object, links_of};
+pub use laws::{
+    fault_is_no_object, fault_lies_within, needs_is_object, needs_tells_hashes, object_or_fault,
+    one_fault, one_object,
+};
 pub use links::{Link, LinkKind};
 pub use needs::write_needs;
 pub use varuint::read_varuint;

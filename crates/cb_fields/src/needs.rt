@@ -2,7 +2,7 @@
 
 ghost use Rattle.std.specs.Prelude.{◌≡◌, ◌≤◌, [], ◌++◌, ◌∷◌, IfOk, OnOk, length};
 ghost use Rattle.cb_fields.specs.Language.{IsObject};
-ghost use Rattle.cb_fields.specs.Needs.{AreHashes, joined, lead, minimal, needs_field, needs_object, width, with_size};
+ghost use Rattle.cb_fields.specs.Needs.{AreHashes, hash_bytes, lead, minimal, needs_field, needs_object, width, with_size};
 
 use ddc_names::{ByteList, IoHash, NoMemory};
 use std::alloc::{AllocError, Global};
@@ -91,7 +91,7 @@ fn push_hash(out: &mut Vec<u8>, hash: &IoHash) -> Result<(), AllocError>
 
 // The count, the type byte of hashes, and the hashes.
 fn listed(alloc: Global, hashes: &[IoHash]) -> Result<Vec<u8>, AllocError>
-    ensures bytes { IfOk result (λ v. v.items ≡ minimal (length hashes.now) ++ 0x10 ∷ joined hashes.now) }
+    ensures bytes { IfOk result (λ v. v.items ≡ minimal (length hashes.now) ++ 0x10 ∷ hash_bytes hashes.now) }
     ensures hashes { OnOk result (AreHashes hashes.now) }
 {
     let mut out = Vec::new(alloc);

@@ -1,7 +1,7 @@
 //! Numbers of one to nine bytes (VarUInt).
 
 ghost use Rattle.std.specs.Prelude.{◌≡◌, ◌+◌, ◌*◌, ◌^◌, ◌<◌, ◌≤◌, ◌∷◌, length, IfSome};
-ghost use Rattle.cb_fields.specs.Varuint.{followers, marked, spelled, varuint_at};
+ghost use Rattle.cb_fields.specs.Varuint.{followers, marked, big_endian_from, varuint_at};
 
 // How many bytes follow the first: as many as it has leading 1 bits.
 #[tactic(auto, unfolding(crate::specs::Varuint::followers))]
@@ -63,7 +63,7 @@ fn low_bits(first: u8) -> u64
 // The number whose front is `high` and whose other bytes, big-endian, are these.
 fn spell(high: u64, bytes: &[u8]) -> u64
     requires { (high + 1) * 256 ^ length bytes.now ≤ 256 ^ 8 }
-    ensures { result ≡ spelled high bytes.now }
+    ensures { result ≡ big_endian_from high bytes.now }
 {
     match bytes {
         [] => high,

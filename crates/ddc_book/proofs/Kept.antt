@@ -22,7 +22,7 @@ use Rattle.ddc_model.specs.declared.entry.Entry.TheVariants.{Space, Upload, Repi
 use Rattle.ddc_model.specs.declared.entry.Step.{Step}
 use Rattle.ddc_model.specs.declared.entry.Step.TheVariants.{Loaded, Change, Broke}
 use Rattle.ddc_model.specs.State.{State, empty_state}
-use Rattle.ddc_model.specs.Entries.{after, legal, with_root, with_touch}
+use Rattle.ddc_model.specs.Entries.{after, legal, with_put_root, with_touch}
 use Rattle.ddc_model.specs.Counts.{fresh_of}
 use Rattle.ddc_model.specs.Sound.{Cache, empty_cache, IsSound}
 use Rattle.ddc_model.specs.Keys.{blob_cmp}
@@ -41,7 +41,7 @@ touch_limits : (s : State) (name : RefName) (hour : ℕ) (slot : Option Slot) �
 touch_limits s name hour None = refl
 touch_limits s name hour (Some slot) = refl
 
-root_limits : (s : State) (space : List ℕ) (root : IoHash) (fresh : Option Stored) (hour : ℕ) → (with_root s space root fresh hour).limits ≡ s.limits
+root_limits : (s : State) (space : List ℕ) (root : IoHash) (fresh : Option Stored) (hour : ℕ) → (with_put_root s space root fresh hour).limits ≡ s.limits
 root_limits s space root None hour = refl
 root_limits s space root (Some blob) hour = refl
 

@@ -21,7 +21,7 @@ use Rattle.ddc_model.specs.Sound.{Cache, HasBytes}
 use Rattle.ddc_model.proofs.Maps.{same_some}
 use Rattle.ddc_book.specs.Opening.{length_of}
 use Rattle.ddc_book.specs.Making.{added_name}
-use Rattle.ddc_entry.specs.Spelling.{name, spot, ref_name, flag, link, stored, optional, spelling, four, eight, IsEntry, IsLink, IsName, IsRefName, IsStored}
+use Rattle.ddc_entry.specs.Spelling.{name, spot, ref_name, flag, link_bytes, stored_bytes, optional, spelling, four_bytes, eight_bytes, IsEntry, IsLink, IsName, IsRefName, IsStored}
 
 name_short : (text : List ℕ) → IsName text → length (name text) ≤ 65
 name_short text is = let short = (rest_of_name 0 text (omega arith) is).0 in omega (arith, short)
@@ -29,34 +29,34 @@ name_short text is = let short = (rest_of_name 0 text (omega arith) is).0 in ome
 ref_name_short : (whole : RefName) → IsRefName whole → length (ref_name whole) ≤ 150
 ref_name_short whole is = omega (arith, name_short whole.space is.0, name_short whole.spot.bucket is.1.0, is.1.1.count, length-append (name whole.space) (spot whole.spot), length-append (name whole.spot.bucket) whole.spot.key.0)
 
-links_short : (links : List Link) → AllByRecursion IsLink links → length (flat_map link links) ≡ 21 * length links
+links_short : (links : List Link) → AllByRecursion IsLink links → length (flat_map link_bytes links) ≡ 21 * length links
 links_short [] all = refl
-links_short (l ∷ links) all = omega (arith, all.0.count, links_short links all.1, length-append (link l) (flat_map link links))
+links_short (l ∷ links) all = omega (arith, all.0.count, links_short links all.1, length-append (link_bytes l) (flat_map link_bytes links))
 
-stored_short : (blob : Stored) → IsStored blob → length (stored blob) ≡ 40 + 21 * length blob.links
+stored_short : (blob : Stored) → IsStored blob → length (stored_bytes blob) ≡ 40 + 21 * length blob.links
 stored_short blob is = omega (
   arith,
   is.0.count,
   links_short blob.links is.4,
-  length-append (blob.hash.0 ++ eight blob.len ++ eight blob.start ++ four (length blob.links)) (flat_map link blob.links),
-  length-append (blob.hash.0 ++ eight blob.len ++ eight blob.start) (four (length blob.links)),
-  length-append (blob.hash.0 ++ eight blob.len) (eight blob.start),
-  length-append blob.hash.0 (eight blob.len),
+  length-append (blob.hash.0 ++ eight_bytes blob.len ++ eight_bytes blob.start ++ four_bytes (length blob.links)) (flat_map link_bytes blob.links),
+  length-append (blob.hash.0 ++ eight_bytes blob.len ++ eight_bytes blob.start) (four_bytes (length blob.links)),
+  length-append (blob.hash.0 ++ eight_bytes blob.len) (eight_bytes blob.start),
+  length-append blob.hash.0 (eight_bytes blob.len),
 )
 
-fresh_short : (fresh : Option Stored) → IfSome fresh IsStored → length (optional stored fresh) ≤ 41 + 21 * added_links fresh
+fresh_short : (fresh : Option Stored) → IfSome fresh IsStored → length (optional stored_bytes fresh) ≤ 41 + 21 * added_links fresh
 fresh_short None is = omega arith
 fresh_short (Some blob) is = omega (arith, stored_short blob is)
 
 pub spelling_short : (entry : Entry) → IsEntry entry → added_links (fresh_of entry) ≤ most_links → length (spelling entry) ≤ 88081000
-spelling_short (Space space ttl pin) is few = omega (arith, name_short space is.0, length-append (name space ++ four ttl) (four pin), length-append (name space) (four ttl))
-spelling_short (Upload space blob hour) is few = omega (arith, few, name_short space is.0, stored_short blob is.1, length-append (name space ++ stored blob) (four hour), length-append (name space) (stored blob))
-spelling_short (Repin space hash hour) is few = omega (arith, name_short space is.0, is.1.count, length-append (name space ++ hash.0) (four hour), length-append (name space) hash.0)
+spelling_short (Space space ttl pin) is few = omega (arith, name_short space is.0, length-append (name space ++ four_bytes ttl) (four_bytes pin), length-append (name space) (four_bytes ttl))
+spelling_short (Upload space blob hour) is few = omega (arith, few, name_short space is.0, stored_short blob is.1, length-append (name space ++ stored_bytes blob) (four_bytes hour), length-append (name space) (stored_bytes blob))
+spelling_short (Repin space hash hour) is few = omega (arith, name_short space is.0, is.1.count, length-append (name space ++ hash.0) (four_bytes hour), length-append (name space) hash.0)
 spelling_short (Put whole_name root fresh whole hour) is few =
-    omega (arith, few, ref_name_short whole_name is.0, is.1.count, fresh_short fresh is.2, length-append (ref_name whole_name ++ root.0 ++ optional stored fresh) (flag whole ∷ four hour), length-append (ref_name whole_name ++ root.0) (optional stored fresh), length-append (ref_name whole_name) root.0)
-spelling_short (Finalise whole_name hash hour) is few = omega (arith, ref_name_short whole_name is.0, is.1.count, length-append (ref_name whole_name ++ hash.0) (four hour), length-append (ref_name whole_name) hash.0)
-spelling_short (Delete whole_name hour) is few = omega (arith, ref_name_short whole_name is.0, length-append (ref_name whole_name) (four hour))
-spelling_short (Touch whole_name hour) is few = omega (arith, ref_name_short whole_name is.0, length-append (ref_name whole_name) (four hour))
+    omega (arith, few, ref_name_short whole_name is.0, is.1.count, fresh_short fresh is.2, length-append (ref_name whole_name ++ root.0 ++ optional stored_bytes fresh) (flag whole ∷ four_bytes hour), length-append (ref_name whole_name ++ root.0) (optional stored_bytes fresh), length-append (ref_name whole_name) root.0)
+spelling_short (Finalise whole_name hash hour) is few = omega (arith, ref_name_short whole_name is.0, is.1.count, length-append (ref_name whole_name ++ hash.0) (four_bytes hour), length-append (ref_name whole_name) hash.0)
+spelling_short (Delete whole_name hour) is few = omega (arith, ref_name_short whole_name is.0, length-append (ref_name whole_name) (four_bytes hour))
+spelling_short (Touch whole_name hour) is few = omega (arith, ref_name_short whole_name is.0, length-append (ref_name whole_name) (four_bytes hour))
 
 -- ---- what a legal entry adds
 

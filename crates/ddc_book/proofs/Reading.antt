@@ -17,7 +17,7 @@ use Rattle.ddc_model.specs.Commands.{done_hash, done_at, found, object_of, touch
 use Rattle.ddc_model.specs.History.{no_room, no_room_for, Past}
 use Rattle.ddc_model.specs.Reads.{HeldAs, serve, served, undamaged, where_room, ServedWhere}
 use Rattle.ddc_model.proofs.Maps.{same_some}
-use Rattle.ddc_model.specs.Content.{named}
+use Rattle.ddc_model.specs.Content.{content_hash}
 use Rattle.ddc_model.specs.Entries.{same_hash}
 use Rattle.ddc_book.specs.Making.{touch_with_room, IsRefusal}
 
@@ -99,10 +99,10 @@ module _ (cache : Cache) (whole : AreWhole cache.index) (has : HasBytes cache) (
     pub is_refusal : (fault : StoreFault) → Err fault ≡ serve cache name.space hash → IsRefusal fault
     is_refusal fault bad =
         let got = gets cache whole has name hour hash is in
-        by_test (same_hash (named got.0) hash) got.0 (bad ∙ serves_found cache whole has name hash got.0 is got.1) where
-          by_test : (same : Bool) (bytes : List ℕ) → Err fault ≡ (if same then Ok bytes else Err (Damaged hash (named bytes))) → IsRefusal fault
+        by_test (same_hash (content_hash got.0) hash) got.0 (bad ∙ serves_found cache whole has name hash got.0 is got.1) where
+          by_test : (same : Bool) (bytes : List ℕ) → Err fault ≡ (if same then Ok bytes else Err (Damaged hash (content_hash bytes))) → IsRefusal fault
           by_test true bytes e = absurd (cc)
-          by_test false bytes e = subst IsRefusal (sym (same_fault fault (Damaged hash (named bytes)) e)) tt
+          by_test false bytes e = subst IsRefusal (sym (same_fault fault (Damaged hash (content_hash bytes)) e)) tt
 
     pub held_served : (bytes : List ℕ) → Ok bytes ≡ serve cache name.space hash → (made : Option Entry) → made ≡ touch_with_room cache.index past name hour → HeldAs cache past name hour (Ok (hash, bytes)) made
     held_served bytes good made touched =

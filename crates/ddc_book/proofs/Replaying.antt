@@ -13,7 +13,7 @@ use Rattle.ddc_model.specs.Counts.{fresh_of}
 use Rattle.ddc_model.specs.Commands.{changed}
 use Rattle.ddc_model.specs.Sound.{Cache, empty_cache, HasBytes}
 use Rattle.ddc_model.specs.History.{after_steps, broken_by}
-use Rattle.ddc_model.specs.Laws.{EmptyIsSound, LegalKeepsBytes, SoundHasBytes}
+use Rattle.ddc_model.specs.Laws.{EmptyIsSound, EntryKeepsBytes, SoundHasBytes}
 use Rattle.ddc_book.specs.Opening.{Leads, length_of}
 use Rattle.ddc_book.specs.Replaying.{IsReplayed, Makes}
 use Rattle.ddc_book.proofs.Steps.{after_more, broken_more}
@@ -30,11 +30,11 @@ as_long : (fresh : Option Stored) (bytes : List ℕ) → length bytes ≡ length
 as_long None bytes is = tt
 as_long (Some blob) bytes is = sym is
 
-pub replayed_push : LegalKeepsBytes → (limits : Limits) (bodies : List (List ℕ)) (body : List ℕ) (cache next : Cache) (steps longer : List Step)
+pub replayed_push : EntryKeepsBytes → (limits : Limits) (bodies : List (List ℕ)) (body : List ℕ) (cache next : Cache) (steps longer : List Step)
     → IsReplayed limits bodies cache steps → Makes body cache next steps longer → IsReplayed limits (bodies ++ body ∷ []) next longer
 replayed_push keeps limits bodies body cache next steps longer so_far makes = record {
   leads = leads_push (empty_cache limits) cache next bodies body steps longer so_far.leads makes;
-  has_bytes = subst HasBytes (sym makes.changes) (keeps cache makes.entry makes.bytes so_far.has_bytes makes.legal_is (as_long (fresh_of makes.entry) makes.bytes makes.is.sized));
+  has_bytes = subst HasBytes (sym makes.changes) (keeps cache makes.entry makes.bytes so_far.has_bytes (as_long (fresh_of makes.entry) makes.bytes makes.is.sized));
   leaves =
       ap (λ (c : Cache). c.index) makes.changes ∙ ap (λ (s : State). after s makes.entry) so_far.leaves ∙ sym (after_more (empty_state limits) steps (Change makes.entry ∷ []))
       ∙ ap (after_steps (empty_state limits)) (sym makes.steps_are);

@@ -6,8 +6,8 @@ ghost use Rattle.ddc_model.specs.declared.entry.Entry.TheVariants.{Put};
 ghost use Rattle.ddc_model.specs.Limits.{most_bytes};
 ghost use Rattle.ddc_model.specs.State.{blob_at, has_space};
 ghost use Rattle.ddc_model.specs.Entries.{is_time};
-ghost use Rattle.ddc_model.specs.Content.{IsContent, named};
-ghost use Rattle.ddc_model.specs.Commands.{hour_of, is_done, is_empty, stored, SpaceAs, UploadAs, PutAs, FinaliseAs};
+ghost use Rattle.ddc_model.specs.Content.{IsContent, content_hash};
+ghost use Rattle.ddc_model.specs.Commands.{hour_of, is_done, needs_none, stored_content, SpaceAs, UploadAs, PutAs, FinaliseAs};
 ghost use Rattle.ddc_model.specs.History.{past_of, WithRoom};
 ghost use Rattle.ddc_model.specs.Reads.{DeleteAs, HeldAs};
 ghost use Rattle.ddc_book.specs.Calls.{Gives, GoesOn, got};
@@ -222,7 +222,7 @@ impl<D: Disk> Book<D> {
     ) -> Result<(), StoreFault>
         requires serves { Serves D.tells D.meaning self.old }
         requires known { has_space self.old.cache.index space.now ≡ true }
-        requires absent { option_map (λ found. found.row.at) (blob_at self.old.cache.index space.now (named blob.bytes)) ≡ None }
+        requires absent { option_map (λ found. found.row.at) (blob_at self.old.cache.index space.now (content_hash blob.bytes)) ≡ None }
         requires short { length blob.bytes ≤ most_bytes }
         ensures gives { Gives self.old blob.bytes self.new (WithRoom self.old.cache.index (past_of self.old.steps) (UploadAs self.old.cache.index space.now blob hour)) result }
         ensures goes_on { GoesOn D.tells D.meaning self.old self.new }
@@ -253,7 +253,7 @@ impl<D: Disk> Book<D> {
     ) -> Result<(), StoreFault>
         requires serves { Serves D.tells D.meaning self.old }
         requires known { has_space self.old.cache.index space.now ≡ true }
-        requires there { option_map (λ found. found.row.at) (blob_at self.old.cache.index space.now (named blob.now.bytes)) ≡ Some at }
+        requires there { option_map (λ found. found.row.at) (blob_at self.old.cache.index space.now (content_hash blob.now.bytes)) ≡ Some at }
         requires short { length blob.now.bytes ≤ most_bytes }
         ensures gives { Gives self.old blob.now.bytes self.new (WithRoom self.old.cache.index (past_of self.old.steps) (UploadAs self.old.cache.index space.now blob.now hour)) result }
         ensures goes_on { GoesOn D.tells D.meaning self.old self.new }
@@ -282,7 +282,7 @@ impl<D: Disk> Book<D> {
         missing: &Rows<IoHash>,
         hour: u32,
     ) -> Result<Entry, NoMemory>
-        ensures { IfOk result (λ entry. entry ≡ Put name.now root fresh (is_empty missing.now) (hour_of self.now.cache.index hour)) }
+        ensures { IfOk result (λ entry. entry ≡ Put name.now root fresh (needs_none missing.now) (hour_of self.now.cache.index hour)) }
     {
         Ok(Entry::Put {
             name: NameBox::new(alloc, *name)?,
@@ -303,7 +303,7 @@ impl<D: Disk> Book<D> {
     ) -> Result<Rows<IoHash>, StoreFault>
         requires serves { Serves D.tells D.meaning self.old }
         requires known { has_space self.old.cache.index name.now.space ≡ true }
-        requires absent { option_map (λ found. found.row.at) (blob_at self.old.cache.index name.now.space (named object.bytes)) ≡ None }
+        requires absent { option_map (λ found. found.row.at) (blob_at self.old.cache.index name.now.space (content_hash object.bytes)) ≡ None }
         requires short { length object.bytes ≤ most_bytes }
         ensures gives { Gives self.old object.bytes self.new (WithRoom self.old.cache.index (past_of self.old.steps) (PutAs self.old.cache.index name.now object hour)) result }
         ensures goes_on { GoesOn D.tells D.meaning self.old self.new }
@@ -335,7 +335,7 @@ impl<D: Disk> Book<D> {
     ) -> Result<Rows<IoHash>, StoreFault>
         requires serves { Serves D.tells D.meaning self.old }
         requires known { has_space self.old.cache.index name.now.space ≡ true }
-        requires there { is_some (option_map (λ found. found.row.at) (blob_at self.old.cache.index name.now.space (named object.now.bytes))) ≡ true }
+        requires there { is_some (option_map (λ found. found.row.at) (blob_at self.old.cache.index name.now.space (content_hash object.now.bytes))) ≡ true }
         requires short { length object.now.bytes ≤ most_bytes }
         ensures gives { Gives self.old object.now.bytes self.new (WithRoom self.old.cache.index (past_of self.old.steps) (PutAs self.old.cache.index name.now object.now hour)) result }
         ensures goes_on { GoesOn D.tells D.meaning self.old self.new }
@@ -401,7 +401,7 @@ impl<D: Disk> Book<D> {
 }
 
 fn hash_of(blob: &Checked) -> IoHash
-    ensures hash { result ≡ named blob.now.bytes }
+    ensures hash { result ≡ content_hash blob.now.bytes }
     ensures read { IsContent blob.now }
 {
     blob.whole().hash()
@@ -409,7 +409,7 @@ fn hash_of(blob: &Checked) -> IoHash
 
 // What an entry says of a blob.
 fn stored(alloc: Global, blob: &Checked) -> Result<Stored, NoMemory>
-    ensures stored { IfOk result (λ fresh. fresh ≡ stored blob.now) }
+    ensures stored { IfOk result (λ fresh. fresh ≡ stored_content blob.now) }
     ensures read { IsContent blob.now }
 {
     let links = Vec::from_slice(alloc, blob.links())?;

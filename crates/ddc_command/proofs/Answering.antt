@@ -14,10 +14,10 @@ use Rattle.ddc_model.specs.declared.fault.StoreFault.TheVariants.{UnknownSpace, 
 use Rattle.ddc_model.specs.declared.fault.StoreFault.TheVariants as faults
 use Rattle.ddc_model.specs.State.{blob_name, has_space}
 use Rattle.ddc_model.specs.Entries.{same_hash}
-use Rattle.ddc_model.specs.Content.{named}
+use Rattle.ddc_model.specs.Content.{content_hash}
 use Rattle.ddc_model.specs.Sound.{Cache}
 use Rattle.ddc_model.specs.Commands.{changed, found}
-use Rattle.ddc_model.specs.History.{Past, none_yet, past_of, with_entry, broken_by, unless_broken, broken_or}
+use Rattle.ddc_model.specs.History.{Past, none_yet, past_of, one_entry_more, broken_by, unless_broken, broken_or}
 use Rattle.ddc_model.specs.Reads.{serve, served}
 use Rattle.ddc_book.specs.declared.reads.Held.{Held}
 use Rattle.ddc_book.specs.declared.reads.Opened.{Opened}
@@ -92,7 +92,7 @@ module _ {D : Type 0} (tells : Bool) (meaning : D → Meaning) (old new : Option
 
   becomes_store : (bytes : List ℕ) (made : Option Entry) → Becomes book bytes next made → behind ≡ store_after store bytes made
   becomes_store bytes None is = ap (λ (b : BookView D). store_of b) is
-  becomes_store bytes (Some entry) (cache, steps) = store_is next.cache (changed book.cache bytes (Some entry)) (past_of next.steps) (with_entry (past_of book.steps) entry) cache (ap past_of steps ∙ past_more none_yet book.steps (Change entry ∷ []))
+  becomes_store bytes (Some entry) (cache, steps) = store_is next.cache (changed book.cache bytes (Some entry)) (past_of next.steps) (one_entry_more (past_of book.steps) entry) cache (ap past_of steps ∙ past_more none_yet book.steps (Change entry ∷ []))
 
   becomes_limits : (bytes : List ℕ) (made : Option Entry) → Becomes book bytes next made → limits_of next ≡ limits_of book
   becomes_limits bytes None is = ap (λ (b : BookView D). limits_of b) is
@@ -148,7 +148,7 @@ module _ {D : Type 0} (tells : Bool) (meaning : D → Meaning) (old new : Option
     breaks : (written : Result (Unit {0}) WriteFault) → reply (Err DiskFailed) ≡ failed_reply → Breaks book bytes next Command → Rose (faults_of meaning book) (faults_of meaning next) → WritesAs old new before now (reply (Err DiskFailed)) written
         → AnswersAs tells meaning old new before now close hour book item next (Ended ends.DiskFailed)
     breaks written text (_, value, entry, count, risen, given, cache, steps) cause w =
-        let is : behind ≡ store_after store bytes (Some entry) = store_is next.cache (changed book.cache bytes (Some entry)) (past_of next.steps) (with_entry (past_of book.steps) entry) cache (ap past_of steps ∙ past_more none_yet book.steps (Change entry ∷ Broke true count risen ∷ [])) in
+        let is : behind ≡ store_after store bytes (Some entry) = store_is next.cache (changed book.cache bytes (Some entry)) (past_of next.steps) (one_entry_more (past_of book.steps) entry) cache (ap past_of steps ∙ past_more none_yet book.steps (Change entry ∷ Broke true count risen ∷ [])) in
         record {
           turned = (changes behind (value, entry, given, is), subst (AppendsFront old new) text (any_front old new before now (reply (Err DiskFailed)) written w));
           devices = devices;
@@ -237,7 +237,7 @@ of_test hash other bytes true = tt
 of_test hash other bytes false = tt
 
 of_found : (hash : IoHash) (blob : Option (List ℕ)) → IsOfBlobs (served hash (found blob))
-of_found hash (Some bytes) = of_test hash (named bytes) bytes (same_hash (named bytes) hash)
+of_found hash (Some bytes) = of_test hash (content_hash bytes) bytes (same_hash (content_hash bytes) hash)
 of_found hash None = tt
 
 of_space : (hash : IoHash) (blob : Option (List ℕ)) (there : Bool) → IsOfBlobs (served hash (if there then found blob else Err UnknownSpace))

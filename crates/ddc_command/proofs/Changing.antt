@@ -5,7 +5,7 @@ use Rattle.ddc_names.specs.declared.reference.RefName.{RefName}
 use Rattle.ddc_model.specs.declared.entry.Entry.{Entry}
 use Rattle.ddc_model.specs.declared.fault.StoreFault.{StoreFault}
 use Rattle.ddc_model.specs.State.{State}
-use Rattle.ddc_model.specs.Content.{Content, named}
+use Rattle.ddc_model.specs.Content.{Content, content_hash}
 use Rattle.ddc_model.specs.Sound.{Cache}
 use Rattle.ddc_model.specs.Commands.{EntryWhere, UploadAs, upload_entry, PutAs, PutWhere, put_fault, FinaliseAs, FinaliseWhere, is_done}
 use Rattle.ddc_model.specs.History.{Past, WithRoom, RoomWhere, no_room_for}
@@ -70,7 +70,7 @@ module _ {A : Type 0} (store : OpenStore) (bytes : List ℕ) (Command : Result A
 keeps_damaged : (close : Bool) (hour : ℕ) (store : OpenStore) (item : Item) (text : List ℕ) (next : OpenStore) → Answers true close hour store item text next → next ≡ store
 keeps_damaged close hour store (put_blob space content) text next h =
     let s = store.cache.index in
-    gives_damaged store content.bytes (WithRoom s store.past (UploadAs s space content hour)) (upload_reply (named content.bytes) close) (none_with_room s store.past (UploadAs s space content hour) (none_by_entry (upload_entry s space content hour))) text next h
+    gives_damaged store content.bytes (WithRoom s store.past (UploadAs s space content hour)) (upload_reply (content_hash content.bytes) close) (none_with_room s store.past (UploadAs s space content hour) (none_by_entry (upload_entry s space content hour))) text next h
 keeps_damaged close hour store (get_blob space hash) text next (is, same, told) = same
 keeps_damaged close hour store (put_ref name content) text next h =
     let s = store.cache.index in
@@ -94,7 +94,7 @@ module _ {A : Type 0} (store : OpenStore) (bytes : List ℕ) (Command : Result A
 
 changes_answers : (close : Bool) (hour : ℕ) (store : OpenStore) (item : Item) (next : OpenStore) → Changes hour store item next → (text : List ℕ) × Answers false close hour store item text next
 changes_answers close hour store (put_blob space content) next h =
-    makes_gives store content.bytes (WithRoom store.cache.index store.past (UploadAs store.cache.index space content hour)) (upload_reply (named content.bytes) close) next h
+    makes_gives store content.bytes (WithRoom store.cache.index store.past (UploadAs store.cache.index space content hour)) (upload_reply (content_hash content.bytes) close) next h
 changes_answers close hour store (get_blob space hash) next h = absurd h
 changes_answers close hour store (put_ref name content) next h =
     makes_gives store content.bytes (WithRoom store.cache.index store.past (PutAs store.cache.index name content hour)) (needs_reply close) next h
@@ -105,7 +105,7 @@ changes_answers close hour store (mismatch expected found) next h = absurd h
 changes_answers close hour store (not_object at) next h = absurd h
 
 changes_more : (hour : ℕ) (store : OpenStore) (item : Item) (next : OpenStore) → Changes hour store item next → next.past.entries ≡ store.past.entries + 1
-changes_more hour store (put_blob space content) next h = makes_more store content.bytes (WithRoom store.cache.index store.past (UploadAs store.cache.index space content hour)) (upload_reply (named content.bytes) false) next h
+changes_more hour store (put_blob space content) next h = makes_more store content.bytes (WithRoom store.cache.index store.past (UploadAs store.cache.index space content hour)) (upload_reply (content_hash content.bytes) false) next h
 changes_more hour store (get_blob space hash) next h = absurd h
 changes_more hour store (put_ref name content) next h = makes_more store content.bytes (WithRoom store.cache.index store.past (PutAs store.cache.index name content hour)) (needs_reply false) next h
 changes_more hour store (get_ref name) next h = makes_more store [] (HeldAs store.cache store.past name hour) (get_reply false) next h

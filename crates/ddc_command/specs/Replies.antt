@@ -5,10 +5,10 @@ use Rattle.ddc_model.specs.declared.entry.Entry.{Entry}
 use Rattle.ddc_model.specs.declared.fault.StoreFault.{StoreFault}
 use Rattle.ddc_model.specs.declared.fault.StoreFault.TheVariants.{Broken, UnknownSpace, NotFound, NotFinalised, NotPending, Full, HistoryFull, NoMemory, DiskFailed, Damaged}
 use Rattle.ddc_model.specs.Limits.{most_bytes}
-use Rattle.ddc_model.specs.Content.{named}
+use Rattle.ddc_model.specs.Content.{content_hash}
 use Rattle.ddc_model.specs.Sound.{Cache}
 use Rattle.ddc_model.specs.Commands.{UploadAs, PutAs, FinaliseAs, changed}
-use Rattle.ddc_model.specs.History.{Past, none_yet, with_entry, WithRoom}
+use Rattle.ddc_model.specs.History.{Past, none_yet, one_entry_more, WithRoom}
 use Rattle.ddc_model.specs.Reads.{serve, HeldAs}
 use Rattle.ddc_protocol.specs.Replies.{json_reply, blob_reply, object_reply, identifier_body, needs_body, fault_reply, mismatch_body, not_object_body, unread_reply}
 use Rattle.ddc_protocol.specs.Requests.{Item, put_blob, get_blob, put_ref, get_ref, finalise, mismatch, not_object, End, closed, cut, unread, spent, most_items}
@@ -22,7 +22,7 @@ abbrev pub just_opened : Cache → OpenStore
 just_opened cache = record { cache = cache; past = none_yet }
 
 abbrev pub past_with : Past → Option Entry → Past
-past_with past (Some entry) = with_entry past entry
+past_with past (Some entry) = one_entry_more past entry
 past_with past None = past
 
 -- the store after the entry of a command with these bytes, where it makes one
@@ -78,7 +78,7 @@ Gives {A} damaged store bytes Command reply text next =
 -- the text of the reply to an item at this hour, and the store behind it
 abbrev pub Answers : Bool → Bool → ℕ → OpenStore → Item → List ℕ → OpenStore → Type 0
 Answers damaged close hour store (put_blob space content) text next =
-    Gives damaged store content.bytes (WithRoom store.cache.index store.past (UploadAs store.cache.index space content hour)) (upload_reply (named content.bytes) close) text next
+    Gives damaged store content.bytes (WithRoom store.cache.index store.past (UploadAs store.cache.index space content hour)) (upload_reply (content_hash content.bytes) close) text next
 Answers damaged close hour store (get_blob space hash) text next =
     (text ≡ fetch_reply hash close (serve store.cache space hash)) × (next ≡ store) × (damaged ≡ says_damaged (serve store.cache space hash))
 Answers damaged close hour store (put_ref name content) text next =

@@ -8,36 +8,36 @@ use Rattle.ddc_names.specs.declared.reference.RefName.{RefName}
 use Rattle.ddc_model.specs.declared.entry.Stored.{Stored}
 use Rattle.ddc_model.specs.declared.entry.Entry.{Entry}
 use Rattle.ddc_model.specs.declared.entry.Entry.TheVariants.{Space, Upload, Repin, Put, Finalise, Delete, Touch}
-use Rattle.ddc_entry.specs.Spelling.{four, name, ref_name, flag, stored, optional, spelling, IsFour, IsName, IsHash, IsRefName, IsStored, IsEntry}
-use Rattle.ddc_entry.specs.Reading.{Reader, both, tagged, nothing, four_at, name_at, hash_at, ref_name_at, flag_at, stored_at, fresh_at, space_at, upload_at, repin_at, put_at, finalise_at, delete_at, touch_at, entry_at}
+use Rattle.ddc_entry.specs.Spelling.{four_bytes, name, ref_name, flag, stored_bytes, optional, spelling, IsFour, IsName, IsHash, IsRefName, IsStored, IsEntry}
+use Rattle.ddc_entry.specs.inside.Reading.{Reader, both, tagged, none_at, four_at, name_at, hash_at, ref_name_at, flag_at, stored_at, fresh_at, space_at, upload_at, repin_at, put_at, finalise_at, delete_at, touch_at, entry_at}
 use Rattle.ddc_entry.specs.Laws.{OneEntry, OneFront}
 use Rattle.ddc_entry.proofs.Readers.{IsBytes, Takes, TakesBehind, Again, Undoes, both_undo, nothing_takes, tagged_takes, made_takes, made_again}
 use Rattle.ddc_entry.proofs.Fields.{four_undo, name_undoes, hash_undoes, ref_name_undoes, flag_undoes, stored_undoes, fresh_undoes}
 
 -- ---- the fields of each
 
-times : Undoes (both name_at (both four_at four_at)) (λ x. name x.0 ++ (four x.1.0 ++ four x.1.1)) (λ x. IsName x.0 × (IsFour x.1.0 × IsFour x.1.1))
-times = both_undo name_at (both four_at four_at) name (λ x. four x.0 ++ four x.1) IsName (λ x. IsFour x.0 × IsFour x.1) name_undoes (both_undo four_at four_at four four IsFour IsFour four_undo four_undo)
+times : Undoes (both name_at (both four_at four_at)) (λ x. name x.0 ++ (four_bytes x.1.0 ++ four_bytes x.1.1)) (λ x. IsName x.0 × (IsFour x.1.0 × IsFour x.1.1))
+times = both_undo name_at (both four_at four_at) name (λ x. four_bytes x.0 ++ four_bytes x.1) IsName (λ x. IsFour x.0 × IsFour x.1) name_undoes (both_undo four_at four_at four_bytes four_bytes IsFour IsFour four_undo four_undo)
 
-blob_fields : Undoes (both name_at (both stored_at four_at)) (λ x. name x.0 ++ (stored x.1.0 ++ four x.1.1)) (λ x. IsName x.0 × (IsStored x.1.0 × IsFour x.1.1))
-blob_fields = both_undo name_at (both stored_at four_at) name (λ x. stored x.0 ++ four x.1) IsName (λ x. IsStored x.0 × IsFour x.1) name_undoes (both_undo stored_at four_at stored four IsStored IsFour stored_undoes four_undo)
+blob_fields : Undoes (both name_at (both stored_at four_at)) (λ x. name x.0 ++ (stored_bytes x.1.0 ++ four_bytes x.1.1)) (λ x. IsName x.0 × (IsStored x.1.0 × IsFour x.1.1))
+blob_fields = both_undo name_at (both stored_at four_at) name (λ x. stored_bytes x.0 ++ four_bytes x.1) IsName (λ x. IsStored x.0 × IsFour x.1) name_undoes (both_undo stored_at four_at stored_bytes four_bytes IsStored IsFour stored_undoes four_undo)
 
-pin_fields : Undoes (both name_at (both hash_at four_at)) (λ x. name x.0 ++ (x.1.0.0 ++ four x.1.1)) (λ x. IsName x.0 × (IsHash x.1.0 × IsFour x.1.1))
-pin_fields = both_undo name_at (both hash_at four_at) name (λ x. x.0.0 ++ four x.1) IsName (λ x. IsHash x.0 × IsFour x.1) name_undoes (both_undo hash_at four_at (λ hash. hash.0) four IsHash IsFour hash_undoes four_undo)
+pin_fields : Undoes (both name_at (both hash_at four_at)) (λ x. name x.0 ++ (x.1.0.0 ++ four_bytes x.1.1)) (λ x. IsName x.0 × (IsHash x.1.0 × IsFour x.1.1))
+pin_fields = both_undo name_at (both hash_at four_at) name (λ x. x.0.0 ++ four_bytes x.1) IsName (λ x. IsHash x.0 × IsFour x.1) name_undoes (both_undo hash_at four_at (λ hash. hash.0) four_bytes IsHash IsFour hash_undoes four_undo)
 
-put_fields : Undoes (both ref_name_at (both hash_at (both fresh_at (both flag_at four_at)))) (λ x. ref_name x.0 ++ (x.1.0.0 ++ (optional stored x.1.1.0 ++ ((flag x.1.1.1.0 ∷ []) ++ four x.1.1.1.1))))
+put_fields : Undoes (both ref_name_at (both hash_at (both fresh_at (both flag_at four_at)))) (λ x. ref_name x.0 ++ (x.1.0.0 ++ (optional stored_bytes x.1.1.0 ++ ((flag x.1.1.1.0 ∷ []) ++ four_bytes x.1.1.1.1))))
     (λ x. IsRefName x.0 × (IsHash x.1.0 × (IfSome x.1.1.0 IsStored × (Unit {0} × IsFour x.1.1.1.1))))
 put_fields =
-    both_undo ref_name_at (both hash_at (both fresh_at (both flag_at four_at))) ref_name (λ x. x.0.0 ++ (optional stored x.1.0 ++ ((flag x.1.1.0 ∷ []) ++ four x.1.1.1))) IsRefName (λ x. IsHash x.0 × (IfSome x.1.0 IsStored × (Unit {0} × IsFour x.1.1.1))) ref_name_undoes
-    (both_undo hash_at (both fresh_at (both flag_at four_at)) (λ hash. hash.0) (λ x. optional stored x.0 ++ ((flag x.1.0 ∷ []) ++ four x.1.1)) IsHash (λ x. IfSome x.0 IsStored × (Unit {0} × IsFour x.1.1)) hash_undoes
-    (both_undo fresh_at (both flag_at four_at) (optional stored) (λ x. (flag x.0 ∷ []) ++ four x.1) (λ fresh. IfSome fresh IsStored) (λ x. Unit {0} × IsFour x.1) fresh_undoes
-    (both_undo flag_at four_at (λ yes. flag yes ∷ []) four (λ yes. Unit {0}) IsFour flag_undoes four_undo)))
+    both_undo ref_name_at (both hash_at (both fresh_at (both flag_at four_at))) ref_name (λ x. x.0.0 ++ (optional stored_bytes x.1.0 ++ ((flag x.1.1.0 ∷ []) ++ four_bytes x.1.1.1))) IsRefName (λ x. IsHash x.0 × (IfSome x.1.0 IsStored × (Unit {0} × IsFour x.1.1.1))) ref_name_undoes
+    (both_undo hash_at (both fresh_at (both flag_at four_at)) (λ hash. hash.0) (λ x. optional stored_bytes x.0 ++ ((flag x.1.0 ∷ []) ++ four_bytes x.1.1)) IsHash (λ x. IfSome x.0 IsStored × (Unit {0} × IsFour x.1.1)) hash_undoes
+    (both_undo fresh_at (both flag_at four_at) (optional stored_bytes) (λ x. (flag x.0 ∷ []) ++ four_bytes x.1) (λ fresh. IfSome fresh IsStored) (λ x. Unit {0} × IsFour x.1) fresh_undoes
+    (both_undo flag_at four_at (λ yes. flag yes ∷ []) four_bytes (λ yes. Unit {0}) IsFour flag_undoes four_undo)))
 
-finalise_fields : Undoes (both ref_name_at (both hash_at four_at)) (λ x. ref_name x.0 ++ (x.1.0.0 ++ four x.1.1)) (λ x. IsRefName x.0 × (IsHash x.1.0 × IsFour x.1.1))
-finalise_fields = both_undo ref_name_at (both hash_at four_at) ref_name (λ x. x.0.0 ++ four x.1) IsRefName (λ x. IsHash x.0 × IsFour x.1) ref_name_undoes (both_undo hash_at four_at (λ hash. hash.0) four IsHash IsFour hash_undoes four_undo)
+finalise_fields : Undoes (both ref_name_at (both hash_at four_at)) (λ x. ref_name x.0 ++ (x.1.0.0 ++ four_bytes x.1.1)) (λ x. IsRefName x.0 × (IsHash x.1.0 × IsFour x.1.1))
+finalise_fields = both_undo ref_name_at (both hash_at four_at) ref_name (λ x. x.0.0 ++ four_bytes x.1) IsRefName (λ x. IsHash x.0 × IsFour x.1) ref_name_undoes (both_undo hash_at four_at (λ hash. hash.0) four_bytes IsHash IsFour hash_undoes four_undo)
 
-hour_fields : Undoes (both ref_name_at four_at) (λ x. ref_name x.0 ++ four x.1) (λ x. IsRefName x.0 × IsFour x.1)
-hour_fields = both_undo ref_name_at four_at ref_name four IsRefName IsFour ref_name_undoes four_undo
+hour_fields : Undoes (both ref_name_at four_at) (λ x. ref_name x.0 ++ four_bytes x.1) (λ x. IsRefName x.0 × IsFour x.1)
+hour_fields = both_undo ref_name_at four_at ref_name four_bytes IsRefName IsFour ref_name_undoes four_undo
 
 three_parts : (a b c : List ℕ) → (a ++ b) ++ c ≡ a ++ (b ++ c)
 three_parts a b c = simp append_assoc
@@ -49,40 +49,40 @@ put_parts a b c d e = simp append_assoc
 
 space_takes : TakesBehind 0x01 space_at spelling IsEntry
 unfolding space_at
-space_takes = made_takes 0x01 (both name_at (both four_at four_at)) (λ x. name x.0 ++ (four x.1.0 ++ four x.1.1)) (λ x. IsName x.0 × (IsFour x.1.0 × IsFour x.1.1)) (λ (p : List ℕ × (ℕ × ℕ)). Space p.0 p.1.0 p.1.1) spelling IsEntry
-    (λ x. ap (λ (t : List ℕ). 0x01 ∷ t) (three_parts (name x.0) (four x.1.0) (four x.1.1))) (λ x h. (h.0, h.1.0, h.1.1)) times
+space_takes = made_takes 0x01 (both name_at (both four_at four_at)) (λ x. name x.0 ++ (four_bytes x.1.0 ++ four_bytes x.1.1)) (λ x. IsName x.0 × (IsFour x.1.0 × IsFour x.1.1)) (λ (p : List ℕ × (ℕ × ℕ)). Space p.0 p.1.0 p.1.1) spelling IsEntry
+    (λ x. ap (λ (t : List ℕ). 0x01 ∷ t) (three_parts (name x.0) (four_bytes x.1.0) (four_bytes x.1.1))) (λ x h. (h.0, h.1.0, h.1.1)) times
 
 upload_takes : TakesBehind 0x02 upload_at spelling IsEntry
 unfolding upload_at
-upload_takes = made_takes 0x02 (both name_at (both stored_at four_at)) (λ x. name x.0 ++ (stored x.1.0 ++ four x.1.1)) (λ x. IsName x.0 × (IsStored x.1.0 × IsFour x.1.1)) (λ (p : List ℕ × (Stored × ℕ)). Upload p.0 p.1.0 p.1.1) spelling IsEntry
-    (λ x. ap (λ (t : List ℕ). 0x02 ∷ t) (three_parts (name x.0) (stored x.1.0) (four x.1.1))) (λ x h. (h.0, h.1.0, h.1.1)) blob_fields
+upload_takes = made_takes 0x02 (both name_at (both stored_at four_at)) (λ x. name x.0 ++ (stored_bytes x.1.0 ++ four_bytes x.1.1)) (λ x. IsName x.0 × (IsStored x.1.0 × IsFour x.1.1)) (λ (p : List ℕ × (Stored × ℕ)). Upload p.0 p.1.0 p.1.1) spelling IsEntry
+    (λ x. ap (λ (t : List ℕ). 0x02 ∷ t) (three_parts (name x.0) (stored_bytes x.1.0) (four_bytes x.1.1))) (λ x h. (h.0, h.1.0, h.1.1)) blob_fields
 
 repin_takes : TakesBehind 0x03 repin_at spelling IsEntry
 unfolding repin_at
-repin_takes = made_takes 0x03 (both name_at (both hash_at four_at)) (λ x. name x.0 ++ (x.1.0.0 ++ four x.1.1)) (λ x. IsName x.0 × (IsHash x.1.0 × IsFour x.1.1)) (λ (p : List ℕ × (IoHash × ℕ)). Repin p.0 p.1.0 p.1.1) spelling IsEntry
-    (λ x. ap (λ (t : List ℕ). 0x03 ∷ t) (three_parts (name x.0) x.1.0.0 (four x.1.1))) (λ x h. (h.0, h.1.0, h.1.1)) pin_fields
+repin_takes = made_takes 0x03 (both name_at (both hash_at four_at)) (λ x. name x.0 ++ (x.1.0.0 ++ four_bytes x.1.1)) (λ x. IsName x.0 × (IsHash x.1.0 × IsFour x.1.1)) (λ (p : List ℕ × (IoHash × ℕ)). Repin p.0 p.1.0 p.1.1) spelling IsEntry
+    (λ x. ap (λ (t : List ℕ). 0x03 ∷ t) (three_parts (name x.0) x.1.0.0 (four_bytes x.1.1))) (λ x h. (h.0, h.1.0, h.1.1)) pin_fields
 
 put_takes : TakesBehind 0x04 put_at spelling IsEntry
 unfolding put_at
-put_takes = made_takes 0x04 (both ref_name_at (both hash_at (both fresh_at (both flag_at four_at)))) (λ x. ref_name x.0 ++ (x.1.0.0 ++ (optional stored x.1.1.0 ++ ((flag x.1.1.1.0 ∷ []) ++ four x.1.1.1.1))))
+put_takes = made_takes 0x04 (both ref_name_at (both hash_at (both fresh_at (both flag_at four_at)))) (λ x. ref_name x.0 ++ (x.1.0.0 ++ (optional stored_bytes x.1.1.0 ++ ((flag x.1.1.1.0 ∷ []) ++ four_bytes x.1.1.1.1))))
     (λ x. IsRefName x.0 × (IsHash x.1.0 × (IfSome x.1.1.0 IsStored × (Unit {0} × IsFour x.1.1.1.1)))) (λ (p : RefName × (IoHash × (Option Stored × (Bool × ℕ)))). Put p.0 p.1.0 p.1.1.0 p.1.1.1.0 p.1.1.1.1) spelling IsEntry
-    (λ x. ap (λ (t : List ℕ). 0x04 ∷ t) (put_parts (ref_name x.0) x.1.0.0 (optional stored x.1.1.0) (flag x.1.1.1.0) (four x.1.1.1.1))) (λ x h. (h.0, h.1.0, h.1.1.0, h.1.1.1.1)) put_fields
+    (λ x. ap (λ (t : List ℕ). 0x04 ∷ t) (put_parts (ref_name x.0) x.1.0.0 (optional stored_bytes x.1.1.0) (flag x.1.1.1.0) (four_bytes x.1.1.1.1))) (λ x h. (h.0, h.1.0, h.1.1.0, h.1.1.1.1)) put_fields
 
 finalise_takes : TakesBehind 0x05 finalise_at spelling IsEntry
 unfolding finalise_at
-finalise_takes = made_takes 0x05 (both ref_name_at (both hash_at four_at)) (λ x. ref_name x.0 ++ (x.1.0.0 ++ four x.1.1)) (λ x. IsRefName x.0 × (IsHash x.1.0 × IsFour x.1.1)) (λ (p : RefName × (IoHash × ℕ)). Finalise p.0 p.1.0 p.1.1) spelling IsEntry
-    (λ x. ap (λ (t : List ℕ). 0x05 ∷ t) (three_parts (ref_name x.0) x.1.0.0 (four x.1.1))) (λ x h. (h.0, h.1.0, h.1.1)) finalise_fields
+finalise_takes = made_takes 0x05 (both ref_name_at (both hash_at four_at)) (λ x. ref_name x.0 ++ (x.1.0.0 ++ four_bytes x.1.1)) (λ x. IsRefName x.0 × (IsHash x.1.0 × IsFour x.1.1)) (λ (p : RefName × (IoHash × ℕ)). Finalise p.0 p.1.0 p.1.1) spelling IsEntry
+    (λ x. ap (λ (t : List ℕ). 0x05 ∷ t) (three_parts (ref_name x.0) x.1.0.0 (four_bytes x.1.1))) (λ x h. (h.0, h.1.0, h.1.1)) finalise_fields
 
 delete_takes : TakesBehind 0x06 delete_at spelling IsEntry
 unfolding delete_at
-delete_takes = made_takes 0x06 (both ref_name_at four_at) (λ x. ref_name x.0 ++ four x.1) (λ x. IsRefName x.0 × IsFour x.1) (λ (p : RefName × ℕ). Delete p.0 p.1) spelling IsEntry (λ x. refl) (λ x h. h) hour_fields
+delete_takes = made_takes 0x06 (both ref_name_at four_at) (λ x. ref_name x.0 ++ four_bytes x.1) (λ x. IsRefName x.0 × IsFour x.1) (λ (p : RefName × ℕ). Delete p.0 p.1) spelling IsEntry (λ x. refl) (λ x h. h) hour_fields
 
 touch_takes : TakesBehind 0x07 touch_at spelling IsEntry
 unfolding touch_at
-touch_takes = made_takes 0x07 (both ref_name_at four_at) (λ x. ref_name x.0 ++ four x.1) (λ x. IsRefName x.0 × IsFour x.1) (λ (p : RefName × ℕ). Touch p.0 p.1) spelling IsEntry (λ x. refl) (λ x h. h) hour_fields
+touch_takes = made_takes 0x07 (both ref_name_at four_at) (λ x. ref_name x.0 ++ four_bytes x.1) (λ x. IsRefName x.0 × IsFour x.1) (λ (p : RefName × ℕ). Touch p.0 p.1) spelling IsEntry (λ x. refl) (λ x h. h) hour_fields
 
 abbrev from7 : Reader Entry
-from7 = tagged 0x07 touch_at nothing
+from7 = tagged 0x07 touch_at none_at
 
 abbrev from6 : Reader Entry
 from6 = tagged 0x06 delete_at from7
@@ -108,25 +108,25 @@ entry_takes =
     (tagged_takes 0x04 put_at from5 spelling IsEntry put_takes
     (tagged_takes 0x05 finalise_at from6 spelling IsEntry finalise_takes
     (tagged_takes 0x06 delete_at from7 spelling IsEntry delete_takes
-    (tagged_takes 0x07 touch_at nothing spelling IsEntry touch_takes (nothing_takes spelling IsEntry)))))))
+    (tagged_takes 0x07 touch_at none_at spelling IsEntry touch_takes (nothing_takes spelling IsEntry)))))))
 
 -- ---- what is spelled
 
 pub entry_again : Again entry_at spelling IsEntry
 unfolding entry_at space_at upload_at repin_at put_at finalise_at delete_at touch_at
 entry_again (Space space ttl pin) rest fit =
-    ap (λ (t : List ℕ). space_at (t ++ rest)) (three_parts (name space) (four ttl) (four pin)) ∙ made_again (both name_at (both four_at four_at)) (λ x. name x.0 ++ (four x.1.0 ++ four x.1.1)) (λ x. IsName x.0 × (IsFour x.1.0 × IsFour x.1.1)) (λ (p : List ℕ × (ℕ × ℕ)). Space p.0 p.1.0 p.1.1) times (space, (ttl, pin)) rest (fit.0, (fit.1, fit.2))
+    ap (λ (t : List ℕ). space_at (t ++ rest)) (three_parts (name space) (four_bytes ttl) (four_bytes pin)) ∙ made_again (both name_at (both four_at four_at)) (λ x. name x.0 ++ (four_bytes x.1.0 ++ four_bytes x.1.1)) (λ x. IsName x.0 × (IsFour x.1.0 × IsFour x.1.1)) (λ (p : List ℕ × (ℕ × ℕ)). Space p.0 p.1.0 p.1.1) times (space, (ttl, pin)) rest (fit.0, (fit.1, fit.2))
 entry_again (Upload space blob hour) rest fit =
-    ap (λ (t : List ℕ). upload_at (t ++ rest)) (three_parts (name space) (stored blob) (four hour)) ∙ made_again (both name_at (both stored_at four_at)) (λ x. name x.0 ++ (stored x.1.0 ++ four x.1.1)) (λ x. IsName x.0 × (IsStored x.1.0 × IsFour x.1.1)) (λ (p : List ℕ × (Stored × ℕ)). Upload p.0 p.1.0 p.1.1) blob_fields (space, (blob, hour)) rest (fit.0, (fit.1, fit.2))
+    ap (λ (t : List ℕ). upload_at (t ++ rest)) (three_parts (name space) (stored_bytes blob) (four_bytes hour)) ∙ made_again (both name_at (both stored_at four_at)) (λ x. name x.0 ++ (stored_bytes x.1.0 ++ four_bytes x.1.1)) (λ x. IsName x.0 × (IsStored x.1.0 × IsFour x.1.1)) (λ (p : List ℕ × (Stored × ℕ)). Upload p.0 p.1.0 p.1.1) blob_fields (space, (blob, hour)) rest (fit.0, (fit.1, fit.2))
 entry_again (Repin space hash hour) rest fit =
-    ap (λ (t : List ℕ). repin_at (t ++ rest)) (three_parts (name space) hash.0 (four hour)) ∙ made_again (both name_at (both hash_at four_at)) (λ x. name x.0 ++ (x.1.0.0 ++ four x.1.1)) (λ x. IsName x.0 × (IsHash x.1.0 × IsFour x.1.1)) (λ (p : List ℕ × (IoHash × ℕ)). Repin p.0 p.1.0 p.1.1) pin_fields (space, (hash, hour)) rest (fit.0, (fit.1, fit.2))
+    ap (λ (t : List ℕ). repin_at (t ++ rest)) (three_parts (name space) hash.0 (four_bytes hour)) ∙ made_again (both name_at (both hash_at four_at)) (λ x. name x.0 ++ (x.1.0.0 ++ four_bytes x.1.1)) (λ x. IsName x.0 × (IsHash x.1.0 × IsFour x.1.1)) (λ (p : List ℕ × (IoHash × ℕ)). Repin p.0 p.1.0 p.1.1) pin_fields (space, (hash, hour)) rest (fit.0, (fit.1, fit.2))
 entry_again (Put whole_name root fresh whole hour) rest fit =
-    ap (λ (t : List ℕ). put_at (t ++ rest)) (put_parts (ref_name whole_name) root.0 (optional stored fresh) (flag whole) (four hour)) ∙ made_again (both ref_name_at (both hash_at (both fresh_at (both flag_at four_at)))) (λ x. ref_name x.0 ++ (x.1.0.0 ++ (optional stored x.1.1.0 ++ ((flag x.1.1.1.0 ∷ []) ++ four x.1.1.1.1))))
+    ap (λ (t : List ℕ). put_at (t ++ rest)) (put_parts (ref_name whole_name) root.0 (optional stored_bytes fresh) (flag whole) (four_bytes hour)) ∙ made_again (both ref_name_at (both hash_at (both fresh_at (both flag_at four_at)))) (λ x. ref_name x.0 ++ (x.1.0.0 ++ (optional stored_bytes x.1.1.0 ++ ((flag x.1.1.1.0 ∷ []) ++ four_bytes x.1.1.1.1))))
     (λ x. IsRefName x.0 × (IsHash x.1.0 × (IfSome x.1.1.0 IsStored × (Unit {0} × IsFour x.1.1.1.1)))) (λ (p : RefName × (IoHash × (Option Stored × (Bool × ℕ)))). Put p.0 p.1.0 p.1.1.0 p.1.1.1.0 p.1.1.1.1) put_fields (whole_name, (root, (fresh, (whole, hour)))) rest (fit.0, (fit.1, (fit.2, (tt, fit.3))))
 entry_again (Finalise whole_name hash hour) rest fit =
-    ap (λ (t : List ℕ). finalise_at (t ++ rest)) (three_parts (ref_name whole_name) hash.0 (four hour)) ∙ made_again (both ref_name_at (both hash_at four_at)) (λ x. ref_name x.0 ++ (x.1.0.0 ++ four x.1.1)) (λ x. IsRefName x.0 × (IsHash x.1.0 × IsFour x.1.1)) (λ (p : RefName × (IoHash × ℕ)). Finalise p.0 p.1.0 p.1.1) finalise_fields (whole_name, (hash, hour)) rest (fit.0, (fit.1, fit.2))
-entry_again (Delete whole_name hour) rest fit = made_again (both ref_name_at four_at) (λ x. ref_name x.0 ++ four x.1) (λ x. IsRefName x.0 × IsFour x.1) (λ (p : RefName × ℕ). Delete p.0 p.1) hour_fields (whole_name, hour) rest fit
-entry_again (Touch whole_name hour) rest fit = made_again (both ref_name_at four_at) (λ x. ref_name x.0 ++ four x.1) (λ x. IsRefName x.0 × IsFour x.1) (λ (p : RefName × ℕ). Touch p.0 p.1) hour_fields (whole_name, hour) rest fit
+    ap (λ (t : List ℕ). finalise_at (t ++ rest)) (three_parts (ref_name whole_name) hash.0 (four_bytes hour)) ∙ made_again (both ref_name_at (both hash_at four_at)) (λ x. ref_name x.0 ++ (x.1.0.0 ++ four_bytes x.1.1)) (λ x. IsRefName x.0 × (IsHash x.1.0 × IsFour x.1.1)) (λ (p : RefName × (IoHash × ℕ)). Finalise p.0 p.1.0 p.1.1) finalise_fields (whole_name, (hash, hour)) rest (fit.0, (fit.1, fit.2))
+entry_again (Delete whole_name hour) rest fit = made_again (both ref_name_at four_at) (λ x. ref_name x.0 ++ four_bytes x.1) (λ x. IsRefName x.0 × IsFour x.1) (λ (p : RefName × ℕ). Delete p.0 p.1) hour_fields (whole_name, hour) rest fit
+entry_again (Touch whole_name hour) rest fit = made_again (both ref_name_at four_at) (λ x. ref_name x.0 ++ four_bytes x.1) (λ x. IsRefName x.0 × IsFour x.1) (λ (p : RefName × ℕ). Touch p.0 p.1) hour_fields (whole_name, hour) rest fit
 
 -- ---- the laws
 

@@ -4,9 +4,9 @@ use Rattle.std.proofs.lemmas.List.{append-nil}
 use Rattle.cb_fields.specs.declared.links.Link.{Link}
 use Rattle.ddc_entry.specs.declared.parts.Unread.{Unread}
 use Rattle.ddc_entry.specs.declared.parts.Unread.TheVariants.{Refused, NoMemory}
-use Rattle.ddc_entry.specs.Reading.{◌>>=◌, Fails, link_at, links_at}
+use Rattle.ddc_entry.specs.inside.Reading.{◌>>=◌, Fails, link_at, links_at}
 
--- these links, and what is read behind them
+-- these links, and what is read after them
 abbrev pub behind : List Link → Option (List Link × List ℕ) → Option (List Link × List ℕ)
 behind links read = read >>= λ x. Some (links ++ x.0, x.1)
 

@@ -3,7 +3,7 @@ use Rattle.std.proofs.Common.{◌≡◌, ℕ, suc, ◌<◌, Bool, true, false, c
 use Rattle.std.specs.Prelude.{slice_index}
 use Rattle.std.proofs.lemmas.Bool.{eqb-true}
 use Rattle.std.proofs.lemmas.Option.{same_Some}
-use Rattle.ddc_entry.specs.Reading.{Reader, ◌>>=◌, both, made, tagged, nothing, given}
+use Rattle.ddc_entry.specs.inside.Reading.{Reader, ◌>>=◌, both, made, tagged, none_at, given}
 
 abbrev pub IsBytes : List ℕ → Type 0
 IsBytes bytes = (i : ℕ) → slice_index bytes i < 256
@@ -12,7 +12,7 @@ IsBytes bytes = (i : ℕ) → slice_index bytes i < 256
 abbrev pub Takes : {A : Type 0} → Reader A → (A → List ℕ) → (A → Type 0) → Type 0
 Takes {A} read spelled Fits = (bytes : List ℕ) (a : A) (rest : List ℕ) → IsBytes bytes → read bytes ≡ Some (a, rest) → (bytes ≡ spelled a ++ rest) × Fits a
 
--- the same behind a tag
+-- the same after a tag
 abbrev pub TakesBehind : {A : Type 0} → ℕ → Reader A → (A → List ℕ) → (A → Type 0) → Type 0
 TakesBehind {A} tag read spelled Fits = (bytes : List ℕ) (a : A) (rest : List ℕ) → IsBytes bytes → read bytes ≡ Some (a, rest) → (tag ∷ bytes ≡ spelled a ++ rest) × Fits a
 
@@ -76,7 +76,7 @@ chosen : {A : Type 0} (b : Bool) (x y z : Option A) → cond b x y ≡ z → ((b
 chosen true x y z e = inl (refl, e)
 chosen false x y z e = inr e
 
-pub nothing_takes : {A : Type 0} (p : A → List ℕ) (P : A → Type 0) → Takes nothing p P
+pub nothing_takes : {A : Type 0} (p : A → List ℕ) (P : A → Type 0) → Takes none_at p P
 nothing_takes p P bytes a rest small e = absurd cc
 
 pub tagged_takes : {A : Type 0} (tag : ℕ) (read other : Reader A) (p : A → List ℕ) (P : A → Type 0)

@@ -16,12 +16,12 @@ use Rattle.ddc_model.specs.declared.entry.Entry.TheVariants.{Space, Upload, Repi
 -- ---- the parts
 
 -- a count or an hour in four bytes
-abbrev pub four : ℕ → List ℕ
-four n = to_le_bytes w32 n
+abbrev pub four_bytes : ℕ → List ℕ
+four_bytes n = to_le_bytes w32 n
 
 -- a length or a place in eight bytes
-abbrev pub eight : ℕ → List ℕ
-eight n = to_le_bytes w64 n
+abbrev pub eight_bytes : ℕ → List ℕ
+eight_bytes n = to_le_bytes w64 n
 
 -- a namespace or a bucket: its length in one byte, and its text
 abbrev pub name : List ℕ → List ℕ
@@ -45,12 +45,12 @@ abbrev pub kind_byte : LinkKind → ℕ
 kind_byte Object = 0
 kind_byte Binary = 1
 
-abbrev pub link : Link → List ℕ
-link to = kind_byte to.kind ∷ to.hash.0
+abbrev pub link_bytes : Link → List ℕ
+link_bytes to = kind_byte to.kind ∷ to.hash.0
 
--- a hash, the length, the first unit, and the links behind their count
-abbrev pub stored : Stored → List ℕ
-stored blob = blob.hash.0 ++ eight blob.len ++ eight blob.start ++ four (length blob.links) ++ flat_map link blob.links
+-- a hash, the length, the first unit, and the links after their count
+abbrev pub stored_bytes : Stored → List ℕ
+stored_bytes blob = blob.hash.0 ++ eight_bytes blob.len ++ eight_bytes blob.start ++ four_bytes (length blob.links) ++ flat_map link_bytes blob.links
 
 -- 0 for none, or 1 and what is there
 abbrev pub optional : {A : Type 0} → (A → List ℕ) → Option A → List ℕ
@@ -61,13 +61,13 @@ optional spelled (Some a) = 1 ∷ spelled a
 
 -- a tag and the entry's fields in order
 abbrev pub spelling : Entry → List ℕ
-spelling (Space space ttl pin) = 0x01 ∷ name space ++ four ttl ++ four pin
-spelling (Upload space blob hour) = 0x02 ∷ name space ++ stored blob ++ four hour
-spelling (Repin space hash hour) = 0x03 ∷ name space ++ hash.0 ++ four hour
-spelling (Put whole_name root fresh whole hour) = 0x04 ∷ ref_name whole_name ++ root.0 ++ optional stored fresh ++ flag whole ∷ four hour
-spelling (Finalise whole_name hash hour) = 0x05 ∷ ref_name whole_name ++ hash.0 ++ four hour
-spelling (Delete whole_name hour) = 0x06 ∷ ref_name whole_name ++ four hour
-spelling (Touch whole_name hour) = 0x07 ∷ ref_name whole_name ++ four hour
+spelling (Space space ttl pin) = 0x01 ∷ name space ++ four_bytes ttl ++ four_bytes pin
+spelling (Upload space blob hour) = 0x02 ∷ name space ++ stored_bytes blob ++ four_bytes hour
+spelling (Repin space hash hour) = 0x03 ∷ name space ++ hash.0 ++ four_bytes hour
+spelling (Put whole_name root fresh whole hour) = 0x04 ∷ ref_name whole_name ++ root.0 ++ optional stored_bytes fresh ++ flag whole ∷ four_bytes hour
+spelling (Finalise whole_name hash hour) = 0x05 ∷ ref_name whole_name ++ hash.0 ++ four_bytes hour
+spelling (Delete whole_name hour) = 0x06 ∷ ref_name whole_name ++ four_bytes hour
+spelling (Touch whole_name hour) = 0x07 ∷ ref_name whole_name ++ four_bytes hour
 
 -- ---- what has a spelling: what every value of the code's types is
 

@@ -1,7 +1,7 @@
 //! The entries of a store's history as bytes.
 //!
 //! An entry is a tag byte and its fields in order, and numbers are little-endian. Each entry has one
-//! spelling, and no spelling is the front of another, so entries can stand one behind the other.
+//! spelling, and no spelling is the front of another, so entries can stand one after the other.
 #![tactic(auto)]
 
 mod laws;

@@ -4,7 +4,7 @@ ghost use Rattle.std.specs.Prelude.{◌≡◌, option_map};
 ghost use Rattle.std.specs.Result.{result_ok};
 ghost use Rattle.ddc_names.specs.Names.{name_of};
 ghost use Rattle.ddc_entry.specs.declared.parts.Unread.TheVariants.{NoMemory};
-ghost use Rattle.ddc_entry.specs.Reading.{Gives, counted_links_at, eight_at, flag_at, four_at, fresh_at, hash_at, key_at, kind_at, link_at, links_at, name_at, ref_name_at, sized_at, spot_at, stored_at};
+ghost use Rattle.ddc_entry.specs.inside.Reading.{ReadsAs, counted_links_at, eight_at, flag_at, four_at, fresh_at, hash_at, key_at, kind_at, link_at, links_at, name_at, ref_name_at, sized_at, spot_at, stored_at};
 
 use cb_fields::{Link, LinkKind};
 use ddc_model::Stored;
@@ -44,9 +44,9 @@ impl From<ddc_names::NoMemory> for Unread {
     }
 }
 
-#[tactic(auto, unfolding(crate::specs::Reading::four_at, crate::specs::Reading::bytes_at))]
+#[tactic(auto, unfolding(crate::specs::inside::Reading::four_at, crate::specs::inside::Reading::bytes_at))]
 pub fn take_four(bytes: &[u8]) -> Result<(u32, &[u8]), Unread>
-    ensures { Gives (λ x. (x.0, x.1.now)) result (four_at bytes.now) }
+    ensures { ReadsAs (λ x. (x.0, x.1.now)) result (four_at bytes.now) }
 {
     match bytes.split_first_chunk::<4>() {
         Some((front, rest)) => Ok((u32::from_le_bytes(*front), rest)),
@@ -54,9 +54,9 @@ pub fn take_four(bytes: &[u8]) -> Result<(u32, &[u8]), Unread>
     }
 }
 
-#[tactic(auto, unfolding(crate::specs::Reading::eight_at, crate::specs::Reading::bytes_at))]
+#[tactic(auto, unfolding(crate::specs::inside::Reading::eight_at, crate::specs::inside::Reading::bytes_at))]
 fn take_eight(bytes: &[u8]) -> Result<(u64, &[u8]), Unread>
-    ensures { Gives (λ x. (x.0, x.1.now)) result (eight_at bytes.now) }
+    ensures { ReadsAs (λ x. (x.0, x.1.now)) result (eight_at bytes.now) }
 {
     match bytes.split_first_chunk::<8>() {
         Some((front, rest)) => Ok((u64::from_le_bytes(*front), rest)),
@@ -64,11 +64,11 @@ fn take_eight(bytes: &[u8]) -> Result<(u64, &[u8]), Unread>
     }
 }
 
-// Names take no memory. They come in an `Option`, which is matched: `?` on a name beside the bytes behind
+// Names take no memory. They come in an `Option`, which is matched: `?` on a name beside the bytes after
 // it has no proof.
 
 // A length byte and so many bytes.
-#[tactic(auto, unfolding(crate::specs::Reading::sized_at, crate::specs::Reading::bytes_at))]
+#[tactic(auto, unfolding(crate::specs::inside::Reading::sized_at, crate::specs::inside::Reading::bytes_at))]
 fn take_sized(bytes: &[u8]) -> Option<(&[u8], &[u8])>
     ensures { option_map (λ x. (x.0.now, x.1.now)) result ≡ sized_at bytes.now }
 {
@@ -102,7 +102,7 @@ fn bucket_of(text: &[u8]) -> Option<Bucket>
     }
 }
 
-#[tactic(auto, unfolding(crate::specs::Reading::name_at))]
+#[tactic(auto, unfolding(crate::specs::inside::Reading::name_at))]
 pub fn take_space(bytes: &[u8]) -> Option<(Namespace, &[u8])>
     ensures { option_map (λ x. (x.0, x.1.now)) result ≡ name_at bytes.now }
 {
@@ -113,7 +113,7 @@ pub fn take_space(bytes: &[u8]) -> Option<(Namespace, &[u8])>
     }
 }
 
-#[tactic(auto, unfolding(crate::specs::Reading::name_at))]
+#[tactic(auto, unfolding(crate::specs::inside::Reading::name_at))]
 fn take_bucket(bytes: &[u8]) -> Option<(Bucket, &[u8])>
     ensures { option_map (λ x. (x.0, x.1.now)) result ≡ name_at bytes.now }
 {
@@ -124,9 +124,9 @@ fn take_bucket(bytes: &[u8]) -> Option<(Bucket, &[u8])>
     }
 }
 
-#[tactic(auto, unfolding(crate::specs::Reading::hash_at, crate::specs::Reading::bytes_at))]
+#[tactic(auto, unfolding(crate::specs::inside::Reading::hash_at, crate::specs::inside::Reading::bytes_at))]
 pub fn take_hash(bytes: &[u8]) -> Result<(IoHash, &[u8]), Unread>
-    ensures { Gives (λ x. (x.0, x.1.now)) result (hash_at bytes.now) }
+    ensures { ReadsAs (λ x. (x.0, x.1.now)) result (hash_at bytes.now) }
 {
     match bytes.split_first_chunk::<20>() {
         Some((front, rest)) => Ok((IoHash(*front), rest)),
@@ -134,7 +134,7 @@ pub fn take_hash(bytes: &[u8]) -> Result<(IoHash, &[u8]), Unread>
     }
 }
 
-#[tactic(auto, unfolding(crate::specs::Reading::key_at, crate::specs::Reading::bytes_at))]
+#[tactic(auto, unfolding(crate::specs::inside::Reading::key_at, crate::specs::inside::Reading::bytes_at))]
 fn take_key(bytes: &[u8]) -> Option<(RefKey, &[u8])>
     ensures { option_map (λ x. (x.0, x.1.now)) result ≡ key_at bytes.now }
 {
@@ -144,7 +144,7 @@ fn take_key(bytes: &[u8]) -> Option<(RefKey, &[u8])>
     }
 }
 
-#[tactic(auto, unfolding(crate::specs::Reading::spot_at))]
+#[tactic(auto, unfolding(crate::specs::inside::Reading::spot_at))]
 fn take_spot(bytes: &[u8]) -> Option<(RefSpot, &[u8])>
     ensures { option_map (λ x. (x.0, x.1.now)) result ≡ spot_at bytes.now }
 {
@@ -155,7 +155,7 @@ fn take_spot(bytes: &[u8]) -> Option<(RefSpot, &[u8])>
     Some((RefSpot { bucket, key }, rest))
 }
 
-#[tactic(auto, unfolding(crate::specs::Reading::ref_name_at))]
+#[tactic(auto, unfolding(crate::specs::inside::Reading::ref_name_at))]
 pub fn take_ref_name(bytes: &[u8]) -> Option<(RefName, &[u8])>
     ensures { option_map (λ x. (x.0, x.1.now)) result ≡ ref_name_at bytes.now }
 {
@@ -168,9 +168,9 @@ pub fn take_ref_name(bytes: &[u8]) -> Option<(RefName, &[u8])>
     Some((RefName { space, spot }, rest))
 }
 
-#[tactic(auto, unfolding(crate::specs::Reading::flag_at))]
+#[tactic(auto, unfolding(crate::specs::inside::Reading::flag_at))]
 pub fn take_flag(bytes: &[u8]) -> Result<(bool, &[u8]), Unread>
-    ensures { Gives (λ x. (x.0, x.1.now)) result (flag_at bytes.now) }
+    ensures { ReadsAs (λ x. (x.0, x.1.now)) result (flag_at bytes.now) }
 {
     match bytes {
         [0, rest @ ..] => Ok((false, rest)),
@@ -179,9 +179,9 @@ pub fn take_flag(bytes: &[u8]) -> Result<(bool, &[u8]), Unread>
     }
 }
 
-#[tactic(auto, unfolding(crate::specs::Reading::kind_at))]
+#[tactic(auto, unfolding(crate::specs::inside::Reading::kind_at))]
 fn take_kind(bytes: &[u8]) -> Result<(LinkKind, &[u8]), Unread>
-    ensures { Gives (λ x. (x.0, x.1.now)) result (kind_at bytes.now) }
+    ensures { ReadsAs (λ x. (x.0, x.1.now)) result (kind_at bytes.now) }
 {
     match bytes {
         [0, rest @ ..] => Ok((LinkKind::Object, rest)),
@@ -190,9 +190,9 @@ fn take_kind(bytes: &[u8]) -> Result<(LinkKind, &[u8]), Unread>
     }
 }
 
-#[tactic(auto, unfolding(crate::specs::Reading::link_at))]
+#[tactic(auto, unfolding(crate::specs::inside::Reading::link_at))]
 fn take_link(bytes: &[u8]) -> Result<(Link, &[u8]), Unread>
-    ensures { Gives (λ x. (x.0, x.1.now)) result (link_at bytes.now) }
+    ensures { ReadsAs (λ x. (x.0, x.1.now)) result (link_at bytes.now) }
 {
     let (kind, rest) = take_kind(bytes)?;
     let (hash, rest) = take_hash(rest)?;
@@ -201,7 +201,7 @@ fn take_link(bytes: &[u8]) -> Result<(Link, &[u8]), Unread>
 
 // The list takes memory for the links that were read alone, whatever the count says.
 fn take_links(alloc: Global, count: u32, bytes: &[u8]) -> Result<(Vec<Link>, &[u8]), Unread>
-    ensures { Gives (λ x. (x.0.items, x.1.now)) result (links_at count bytes.now) }
+    ensures { ReadsAs (λ x. (x.0.items, x.1.now)) result (links_at count bytes.now) }
 {
     let mut links = Vec::new(alloc);
     let mut rest = bytes;
@@ -213,18 +213,18 @@ fn take_links(alloc: Global, count: u32, bytes: &[u8]) -> Result<(Vec<Link>, &[u
     Ok((links, rest))
 }
 
-#[tactic(auto, unfolding(crate::specs::Reading::counted_links_at))]
+#[tactic(auto, unfolding(crate::specs::inside::Reading::counted_links_at))]
 fn take_counted_links(alloc: Global, bytes: &[u8]) -> Result<(Rows<Link>, &[u8]), Unread>
-    ensures { Gives (λ x. (x.0, x.1.now)) result (counted_links_at bytes.now) }
+    ensures { ReadsAs (λ x. (x.0, x.1.now)) result (counted_links_at bytes.now) }
 {
     let (count, rest) = take_four(bytes)?;
     let (links, rest) = take_links(alloc, count, rest)?;
     Ok((Rows::of_vec(links), rest))
 }
 
-#[tactic(auto, unfolding(crate::specs::Reading::stored_at))]
+#[tactic(auto, unfolding(crate::specs::inside::Reading::stored_at))]
 pub fn take_stored(alloc: Global, bytes: &[u8]) -> Result<(Stored, &[u8]), Unread>
-    ensures { Gives (λ x. (x.0, x.1.now)) result (stored_at bytes.now) }
+    ensures { ReadsAs (λ x. (x.0, x.1.now)) result (stored_at bytes.now) }
 {
     let (hash, rest) = take_hash(bytes)?;
     let (len, rest) = take_eight(rest)?;
@@ -242,9 +242,9 @@ pub fn take_stored(alloc: Global, bytes: &[u8]) -> Result<(Stored, &[u8]), Unrea
 }
 
 // The byte 0, or 1 and a blob.
-#[tactic(auto, unfolding(crate::specs::Reading::fresh_at))]
+#[tactic(auto, unfolding(crate::specs::inside::Reading::fresh_at))]
 pub fn take_fresh(alloc: Global, bytes: &[u8]) -> Result<(Option<Stored>, &[u8]), Unread>
-    ensures { Gives (λ x. (x.0, x.1.now)) result (fresh_at bytes.now) }
+    ensures { ReadsAs (λ x. (x.0, x.1.now)) result (fresh_at bytes.now) }
 {
     match bytes {
         [0, rest @ ..] => Ok((None, rest)),

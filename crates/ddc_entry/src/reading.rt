@@ -3,7 +3,7 @@
 ghost use Rattle.std.specs.Prelude.{◌≡◌, ◌++◌, List, ℕ, length, drop, Some, IfSome, IfOk};
 ghost use Rattle.ddc_model.specs.declared.entry.Entry.{Entry};
 ghost use Rattle.ddc_entry.specs.Spelling.{spelling, IsEntry};
-ghost use Rattle.ddc_entry.specs.Reading.{Gives, delete_at, entry_at, finalise_at, put_at, repin_at, space_at, touch_at, upload_at};
+ghost use Rattle.ddc_entry.specs.inside.Reading.{ReadsAs, delete_at, entry_at, finalise_at, put_at, repin_at, space_at, touch_at, upload_at};
 
 use crate::parts::{
     Unread, take_flag, take_four, take_fresh, take_hash, take_ref_name, take_space, take_stored,
@@ -12,9 +12,9 @@ use ddc_model::{Entry, NameBox};
 use ddc_names::NoMemory;
 use std::alloc::Global;
 
-#[tactic(auto, unfolding(crate::specs::Reading::space_at))]
+#[tactic(auto, unfolding(crate::specs::inside::Reading::space_at))]
 fn space_of(bytes: &[u8]) -> Result<(Entry, &[u8]), Unread>
-    ensures { Gives (λ x. (x.0, x.1.now)) result (space_at bytes.now) }
+    ensures { ReadsAs (λ x. (x.0, x.1.now)) result (space_at bytes.now) }
 {
     let Some((space, rest)) = take_space(bytes) else {
         return Err(Unread::Refused);
@@ -24,9 +24,9 @@ fn space_of(bytes: &[u8]) -> Result<(Entry, &[u8]), Unread>
     Ok((Entry::Space { space, ttl, pin }, rest))
 }
 
-#[tactic(auto, unfolding(crate::specs::Reading::upload_at))]
+#[tactic(auto, unfolding(crate::specs::inside::Reading::upload_at))]
 fn upload_of(alloc: Global, bytes: &[u8]) -> Result<(Entry, &[u8]), Unread>
-    ensures { Gives (λ x. (x.0, x.1.now)) result (upload_at bytes.now) }
+    ensures { ReadsAs (λ x. (x.0, x.1.now)) result (upload_at bytes.now) }
 {
     let Some((space, rest)) = take_space(bytes) else {
         return Err(Unread::Refused);
@@ -36,9 +36,9 @@ fn upload_of(alloc: Global, bytes: &[u8]) -> Result<(Entry, &[u8]), Unread>
     Ok((Entry::Upload { space, blob, hour }, rest))
 }
 
-#[tactic(auto, unfolding(crate::specs::Reading::repin_at))]
+#[tactic(auto, unfolding(crate::specs::inside::Reading::repin_at))]
 fn repin_of(bytes: &[u8]) -> Result<(Entry, &[u8]), Unread>
-    ensures { Gives (λ x. (x.0, x.1.now)) result (repin_at bytes.now) }
+    ensures { ReadsAs (λ x. (x.0, x.1.now)) result (repin_at bytes.now) }
 {
     let Some((space, rest)) = take_space(bytes) else {
         return Err(Unread::Refused);
@@ -48,9 +48,9 @@ fn repin_of(bytes: &[u8]) -> Result<(Entry, &[u8]), Unread>
     Ok((Entry::Repin { space, hash, hour }, rest))
 }
 
-#[tactic(auto, unfolding(crate::specs::Reading::put_at))]
+#[tactic(auto, unfolding(crate::specs::inside::Reading::put_at))]
 fn put_of(alloc: Global, bytes: &[u8]) -> Result<(Entry, &[u8]), Unread>
-    ensures { Gives (λ x. (x.0, x.1.now)) result (put_at bytes.now) }
+    ensures { ReadsAs (λ x. (x.0, x.1.now)) result (put_at bytes.now) }
 {
     let Some((name, rest)) = take_ref_name(bytes) else {
         return Err(Unread::Refused);
@@ -72,9 +72,9 @@ fn put_of(alloc: Global, bytes: &[u8]) -> Result<(Entry, &[u8]), Unread>
     ))
 }
 
-#[tactic(auto, unfolding(crate::specs::Reading::finalise_at))]
+#[tactic(auto, unfolding(crate::specs::inside::Reading::finalise_at))]
 fn finalise_of(alloc: Global, bytes: &[u8]) -> Result<(Entry, &[u8]), Unread>
-    ensures { Gives (λ x. (x.0, x.1.now)) result (finalise_at bytes.now) }
+    ensures { ReadsAs (λ x. (x.0, x.1.now)) result (finalise_at bytes.now) }
 {
     let Some((name, rest)) = take_ref_name(bytes) else {
         return Err(Unread::Refused);
@@ -85,9 +85,9 @@ fn finalise_of(alloc: Global, bytes: &[u8]) -> Result<(Entry, &[u8]), Unread>
     Ok((Entry::Finalise { name, hash, hour }, rest))
 }
 
-#[tactic(auto, unfolding(crate::specs::Reading::delete_at))]
+#[tactic(auto, unfolding(crate::specs::inside::Reading::delete_at))]
 fn delete_of(alloc: Global, bytes: &[u8]) -> Result<(Entry, &[u8]), Unread>
-    ensures { Gives (λ x. (x.0, x.1.now)) result (delete_at bytes.now) }
+    ensures { ReadsAs (λ x. (x.0, x.1.now)) result (delete_at bytes.now) }
 {
     let Some((name, rest)) = take_ref_name(bytes) else {
         return Err(Unread::Refused);
@@ -97,9 +97,9 @@ fn delete_of(alloc: Global, bytes: &[u8]) -> Result<(Entry, &[u8]), Unread>
     Ok((Entry::Delete { name, hour }, rest))
 }
 
-#[tactic(auto, unfolding(crate::specs::Reading::touch_at))]
+#[tactic(auto, unfolding(crate::specs::inside::Reading::touch_at))]
 fn touch_of(alloc: Global, bytes: &[u8]) -> Result<(Entry, &[u8]), Unread>
-    ensures { Gives (λ x. (x.0, x.1.now)) result (touch_at bytes.now) }
+    ensures { ReadsAs (λ x. (x.0, x.1.now)) result (touch_at bytes.now) }
 {
     let Some((name, rest)) = take_ref_name(bytes) else {
         return Err(Unread::Refused);
@@ -109,9 +109,9 @@ fn touch_of(alloc: Global, bytes: &[u8]) -> Result<(Entry, &[u8]), Unread>
     Ok((Entry::Touch { name, hour }, rest))
 }
 
-#[tactic(auto, unfolding(crate::specs::Reading::entry_at))]
+#[tactic(auto, unfolding(crate::specs::inside::Reading::entry_at))]
 fn take_entry(alloc: Global, bytes: &[u8]) -> Result<(Entry, &[u8]), Unread>
-    ensures { Gives (λ x. (x.0, x.1.now)) result (entry_at bytes.now) }
+    ensures { ReadsAs (λ x. (x.0, x.1.now)) result (entry_at bytes.now) }
 {
     match bytes {
         [0x01, rest @ ..] => space_of(rest),
@@ -126,7 +126,7 @@ fn take_entry(alloc: Global, bytes: &[u8]) -> Result<(Entry, &[u8]), Unread>
 }
 
 /// The entry that the bytes spell, and `None` where they spell none. Each byte belongs to the spelling:
-/// bytes behind an entry are refused.
+/// bytes after an entry are refused.
 ///
 /// # Errors
 ///

@@ -5,7 +5,7 @@ ghost use Rattle.std.specs.List.{AllByRecursion, flat_map};
 ghost use Rattle.ddc_model.specs.Counts.{added_links, fresh_of};
 ghost use Rattle.ddc_model.specs.Limits.{most_links};
 ghost use Rattle.ddc_model.specs.declared.entry.Entry.TheVariants.{Space, Upload, Repin, Put, Finalise, Delete, Touch};
-ghost use Rattle.ddc_entry.specs.Spelling.{flag, four, kind_byte, link, name, optional, ref_name, spelling, spot, stored, AreTwenty, IsEntry, IsHash, IsLink, IsName, IsRefName, IsSpot, IsStored};
+ghost use Rattle.ddc_entry.specs.Spelling.{flag, four_bytes, kind_byte, link_bytes, name, optional, ref_name, spelling, spot, stored_bytes, AreTwenty, IsEntry, IsHash, IsLink, IsName, IsRefName, IsSpot, IsStored};
 
 use cb_fields::{Link, LinkKind};
 use ddc_model::{Entry, Stored};
@@ -13,7 +13,7 @@ use ddc_names::{Bucket, ByteList, IoHash, Namespace, NoMemory, RefName, RefSpot}
 use std::alloc::{AllocError, Global};
 
 fn push_four(out: &mut Vec<u8>, number: u32) -> Result<(), AllocError>
-    ensures { OnOk result (out.new.items ≡ out.old.items ++ four number) }
+    ensures { OnOk result (out.new.items ≡ out.old.items ++ four_bytes number) }
 {
     out.extend_from_slice(&number.to_le_bytes())?;
     Ok(())
@@ -87,7 +87,7 @@ fn kind_of(kind: LinkKind) -> u8
 }
 
 fn push_link(out: &mut Vec<u8>, to: &Link) -> Result<(), AllocError>
-    ensures bytes { OnOk result (out.new.items ≡ out.old.items ++ link to.now) }
+    ensures bytes { OnOk result (out.new.items ≡ out.old.items ++ link_bytes to.now) }
     ensures fits { OnOk result (IsLink to.now) }
 {
     out.push(kind_of(to.kind))?;
@@ -97,7 +97,7 @@ fn push_link(out: &mut Vec<u8>, to: &Link) -> Result<(), AllocError>
 
 // The links, without their count.
 fn push_links(out: &mut Vec<u8>, links: &[Link]) -> Result<(), AllocError>
-    ensures bytes { OnOk result (out.new.items ≡ out.old.items ++ flat_map link links.now) }
+    ensures bytes { OnOk result (out.new.items ≡ out.old.items ++ flat_map link_bytes links.now) }
     ensures fits { OnOk result (AllByRecursion IsLink links.now) }
 {
     for to in links {
@@ -108,7 +108,7 @@ fn push_links(out: &mut Vec<u8>, links: &[Link]) -> Result<(), AllocError>
 
 fn push_stored(out: &mut Vec<u8>, blob: &Stored) -> Result<(), AllocError>
     requires { length blob.now.links ≤ most_links }
-    ensures bytes { OnOk result (out.new.items ≡ out.old.items ++ stored blob.now) }
+    ensures bytes { OnOk result (out.new.items ≡ out.old.items ++ stored_bytes blob.now) }
     ensures fits { OnOk result (IsStored blob.now) }
 {
     push_twenty(out, &blob.hash.0)?;
@@ -121,7 +121,7 @@ fn push_stored(out: &mut Vec<u8>, blob: &Stored) -> Result<(), AllocError>
 
 fn push_fresh(out: &mut Vec<u8>, fresh: &Option<Stored>) -> Result<(), AllocError>
     requires { added_links fresh.now ≤ most_links }
-    ensures bytes { OnOk result (out.new.items ≡ out.old.items ++ optional stored fresh.now) }
+    ensures bytes { OnOk result (out.new.items ≡ out.old.items ++ optional stored_bytes fresh.now) }
     ensures fits { OnOk result (IfSome fresh.now IsStored) }
 {
     match fresh {

@@ -5,10 +5,10 @@ use Rattle.std.proofs.lemmas.Bool.Decides.{nat_tests}
 use Rattle.ddc_names.specs.declared.hash.IoHash.{IoHash}
 use Rattle.ddc_names.specs.Names.{hash_text}
 use Rattle.ddc_protocol.specs.Replies.{hash_list}
-use Rattle.ddc_model.specs.Commands.{is_empty}
+use Rattle.ddc_model.specs.Commands.{needs_none}
 use Rattle.ddc_http.specs.Heads.{hash_entry}
 
-pub hash_list-more : (hashes : List IoHash) (hash : IoHash) → hash_list (hashes ++ hash ∷ []) ≡ hash_list hashes ++ hash_entry (is_empty hashes) hash
+pub hash_list-more : (hashes : List IoHash) (hash : IoHash) → hash_list (hashes ++ hash ∷ []) ≡ hash_list hashes ++ hash_entry (needs_none hashes) hash
 hash_list-more [] hash = refl
 hash_list-more (x ∷ []) hash =
     let front = codes "\"" ++ hash_text x in
@@ -17,7 +17,7 @@ hash_list-more (x ∷ y ∷ hashes) hash =
     let front = codes "\"" ++ hash_text x ++ codes "\"," in
     ap (λ l. front ++ l) (hash_list-more (y ∷ hashes) hash) ∙ sym (append_assoc front (hash_list (y ∷ hashes)) (hash_entry false hash))
 
-is_empty-take : (hashes : List IoHash) (i : ℕ) → i < length hashes → is_empty (take i hashes) ≡ (i == 0)
+is_empty-take : (hashes : List IoHash) (i : ℕ) → i < length hashes → needs_none (take i hashes) ≡ (i == 0)
 is_empty-take [] i within = absurd (omega arith)
 is_empty-take (x ∷ hashes) zero within = refl
 is_empty-take (x ∷ hashes) (suc i) within = grind (arith, nat_tests)

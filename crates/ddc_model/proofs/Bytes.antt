@@ -12,10 +12,10 @@ use Rattle.ddc_model.specs.declared.entry.Entry.{Entry}
 use Rattle.ddc_model.specs.declared.entry.Entry.TheVariants.{Space, Upload, Repin, Put, Finalise, Delete, Touch}
 use Rattle.ddc_model.specs.Keys.{blob_cmp, blob_exact, blob_total}
 use Rattle.ddc_model.specs.State.{State, blob_name}
-use Rattle.ddc_model.specs.Entries.{after, blob_of, pinned, with_root, with_touch}
+use Rattle.ddc_model.specs.Entries.{after, blob_of, pinned, with_put_root, with_touch}
 use Rattle.ddc_model.specs.Counts.{fresh_of}
 use Rattle.ddc_model.specs.Commands.{kept_where, kept}
-use Rattle.ddc_model.specs.Laws.{SoundHasBytes, LegalKeepsBytes}
+use Rattle.ddc_model.specs.Laws.{SoundHasBytes, EntryKeepsBytes}
 use Rattle.ddc_model.proofs.Maps.{get_here, get_away, same_or_not, same_some}
 
 -- the blob pinned from this hour on, where it is later
@@ -83,7 +83,7 @@ module _ (P : BlobName → Blob → List ℕ → Type 0) (lasts : (name : BlobNa
         split (inr differs) = ap is_some (get_away blob_total blob_exact blobs name (later old hour) other differs) ∙ have.none_else other found there
 
   root_kept : (s : State) (all : FinMap blob_cmp (List ℕ)) → Have P s.blobs all → (space : List ℕ) (root : IoHash) (fresh : Option Stored) (hour : ℕ) (bytes : List ℕ) → AddsIn space fresh hour bytes
-      → Have P (with_root s space root fresh hour).blobs (kept_where all space fresh bytes)
+      → Have P (with_put_root s space root fresh hour).blobs (kept_where all space fresh bytes)
   root_kept s all have space root None hour bytes adds = repinned s.blobs all have (blob_name space root) hour (get s.blobs (blob_name space root)) refl
   root_kept s all have space root (Some blob) hour bytes adds = added s.blobs all have (blob_name space blob.hash) (blob_of blob hour) bytes adds
 
@@ -125,8 +125,8 @@ adds_length (Finalise name hash hour) bytes is = tt
 adds_length (Delete name hour) bytes is = tt
 adds_length (Touch name hour) bytes is = tt
 
-pub bytes_kept : LegalKeepsBytes
-bytes_kept cache entry bytes has legal fits =
+pub bytes_kept : EntryKeepsBytes
+bytes_kept cache entry bytes has fits =
     let before : Have HasLength cache.index.blobs cache.bytes = record { each = has.each; none_else = has.none_else } in
     let now = stay HasLength length_lasts cache.index cache.bytes entry bytes before (adds_length entry bytes fits) in
     record { each = now.each; none_else = now.none_else }

@@ -2,12 +2,12 @@
 use Rattle.std.specs.Prelude.{◌≡◌, ℕ, ◌*◌, ◌≤◌, Bool, true, false, List, ◌++◌, length}
 use Rattle.std.proofs.Common.{ap, arith, length-append}
 use Rattle.cb_fields.specs.declared.links.Link.{Link}
-use Rattle.cb_fields.specs.declared.form.Form.{Form}
+use Rattle.cb_fields.specs.declared.shape.Shape.{Shape}
 use Rattle.cb_fields.specs.Language.{IsPlain, fixed, attachment, number, sized, Class, Spells, plain, container, none, more}
-use Rattle.ddc_model.specs.Content.{IsRead}
+use Rattle.ddc_model.specs.Content.{AreLinksOf}
 use Rattle.ddc_model.specs.Laws.{LinksFit}
 
-plain_fits : (form : Form) (p : List ℕ) (links : List Link) → IsPlain form p links → 20 * length links ≤ length p
+plain_fits : (shape : Shape) (p : List ℕ) (links : List Link) → IsPlain shape p links → 20 * length links ≤ length p
 plain_fits _ p _ (fixed e) = omega arith
 plain_fits _ p _ (attachment e) = omega arith
 plain_fits _ p _ (number n h) = omega arith
@@ -28,7 +28,7 @@ spelled_fits _ _ (more f fs ls ms h first rest) =
     let links = length-append ls ms in
     omega arith
 
-read_fits : (bytes : List ℕ) (is_object : Bool) (links : List Link) → IsRead bytes is_object links → 20 * length links ≤ length bytes
+read_fits : (bytes : List ℕ) (is_object : Bool) (links : List Link) → AreLinksOf bytes is_object links → 20 * length links ≤ length bytes
 read_fits bytes true links h = spelled_fits bytes links h.field
 read_fits bytes false links h = let few : length links ≡ 0 = ap length h.1 in omega arith
 

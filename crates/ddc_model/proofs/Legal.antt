@@ -8,8 +8,8 @@ use Rattle.ddc_model.specs.declared.rows.Blob.{Blob}
 use Rattle.ddc_model.specs.Limits.{most_bytes, most_links}
 use Rattle.ddc_model.specs.State.{State, blob_at}
 use Rattle.ddc_model.specs.Entries.{same_hash, is_fresh, is_root}
-use Rattle.ddc_model.specs.Content.{Content, IsContent, named}
-use Rattle.ddc_model.specs.Commands.{stored, fresh_where}
+use Rattle.ddc_model.specs.Content.{Content, IsContent, content_hash}
+use Rattle.ddc_model.specs.Commands.{stored_content, fresh_where}
 use Rattle.ddc_model.specs.Laws.{IsLegal, UploadIsLegal, PutIsLegal, DeleteIsLegal}
 use Rattle.ddc_model.proofs.Fit.{links_take_bytes}
 use Rattle.ddc_model.proofs.Made.{made_by_upload, made_by_put, made_by_delete}
@@ -34,11 +34,11 @@ module _ (s : State) (space : List ℕ) (content : Content) (read : IsContent co
   few : length content.links ≤ most_links
   few = let fits = links_take_bytes content read in let cap : length content.bytes ≤ 67108864 = short in let goal : length content.links ≤ 4194304 = omega arith in goal
 
-  fresh : blob_at s space (named content.bytes) ≡ None → is_fresh s space (stored content) ≡ true
+  fresh : blob_at s space (content_hash content.bytes) ≡ None → is_fresh s space (stored_content content) ≡ true
   fresh none i = not (is_some (none i)) && at_most (length content.bytes) most_bytes short i && at_most (length content.links) most_links few i
 
-  pub root_fits : (found : Option Blob) → blob_at s space (named content.bytes) ≡ found → is_root s space (named content.bytes) (fresh_where found content) ≡ true
-  root_fits None is = both _ _ (is_this (named content.bytes)) (fresh is)
+  pub root_fits : (found : Option Blob) → blob_at s space (content_hash content.bytes) ≡ found → is_root s space (content_hash content.bytes) (fresh_where found content) ≡ true
+  root_fits None is = both _ _ (is_this (content_hash content.bytes)) (fresh is)
   root_fits (Some blob) is = ap is_some is
 
 pub upload_legal : UploadIsLegal
@@ -49,7 +49,7 @@ upload_legal s space content hour answer made read short gives =
 pub put_legal : PutIsLegal
 put_legal s name content hour answer made read short gives =
     made_by_put (IsLegal s) tt s name content hour
-    (λ known needs are. both _ _ known (root_fits s name.space content read short (blob_at s name.space (named content.bytes)) refl)) answer made gives
+    (λ known needs are. both _ _ known (root_fits s name.space content read short (blob_at s name.space (content_hash content.bytes)) refl)) answer made gives
 
 pub delete_legal : DeleteIsLegal
 delete_legal s name hour answer made gives = made_by_delete (IsLegal s) tt s name hour (λ known there. both _ _ known there) answer made gives

@@ -11,11 +11,11 @@ use Rattle.ddc_model.specs.declared.entry.Entry.TheVariants.{Space, Upload, Repi
 use Rattle.ddc_model.specs.declared.fault.StoreFault.{StoreFault}
 use Rattle.ddc_model.specs.declared.fault.StoreFault.TheVariants.{UnknownSpace, NotFound}
 use Rattle.ddc_model.specs.State.{State, blob_at, has_space}
-use Rattle.ddc_model.specs.Content.{Content, named}
+use Rattle.ddc_model.specs.Content.{Content, content_hash}
 use Rattle.ddc_model.specs.Closure.{links_in, AreNeeds}
 use Rattle.ddc_model.specs.Sound.{Cache}
 use Rattle.ddc_model.specs.Counts.{full}
-use Rattle.ddc_model.specs.Commands.{hour_of, stored, unless, with_room, EntryWhere, SpaceAs, upload_where, UploadAs, put_entry, with_object, PutWhere, PutAs, is_done, finalise_entry, FinaliseWhere, FinaliseAs, object_of, touch_where, GetWhere, GetAs}
+use Rattle.ddc_model.specs.Commands.{hour_of, stored_content, unless, with_room, EntryWhere, SpaceAs, upload_where, UploadAs, put_entry, with_object, PutWhere, PutAs, is_done, finalise_entry, FinaliseWhere, FinaliseAs, object_of, touch_where, GetWhere, GetAs}
 use Rattle.ddc_model.specs.Reads.{DeleteAs}
 
 module _ (P : Option Entry → Type 0) (none : P None) (s : State) where
@@ -35,20 +35,20 @@ module _ (P : Option Entry → Type 0) (none : P None) (s : State) where
   made_by_space space ttl pin some = made_with_room (Some (Space space ttl pin)) some
 
   pub made_by_upload : (space : List ℕ) (content : Content) (hour : ℕ)
-      → (has_space s space ≡ true → blob_at s space (named content.bytes) ≡ None → P (Some (Upload space (stored content) (hour_of s hour))))
-      → (has_space s space ≡ true → (blob : Blob) → blob_at s space (named content.bytes) ≡ Some blob → P (Some (Repin space (named content.bytes) (hour_of s hour))))
+      → (has_space s space ≡ true → blob_at s space (content_hash content.bytes) ≡ None → P (Some (Upload space (stored_content content) (hour_of s hour))))
+      → (has_space s space ≡ true → (blob : Blob) → blob_at s space (content_hash content.bytes) ≡ Some blob → P (Some (Repin space (content_hash content.bytes) (hour_of s hour))))
       → (answer : Result (Unit {0}) StoreFault) (made : Option Entry) → UploadAs s space content hour answer made → P made
   made_by_upload space content hour new old answer made gives = by_cases (has_space s space) refl gives where
-    entry : has_space s space ≡ true → (found : Option Blob) → blob_at s space (named content.bytes) ≡ found → P (upload_where found space content (hour_of s hour))
+    entry : has_space s space ≡ true → (found : Option Blob) → blob_at s space (content_hash content.bytes) ≡ found → P (upload_where found space content (hour_of s hour))
     entry known None is = new known is
-    entry known (Some blob) is = if_made (nat_lt blob.row.at (hour_of s hour)) (Repin space (named content.bytes) (hour_of s hour)) (old known blob is)
+    entry known (Some blob) is = if_made (nat_lt blob.row.at (hour_of s hour)) (Repin space (content_hash content.bytes) (hour_of s hour)) (old known blob is)
 
-    by_cases : (there : Bool) → has_space s space ≡ there → EntryWhere (if there then with_room s (upload_where (blob_at s space (named content.bytes)) space content (hour_of s hour)) else Err UnknownSpace) answer made → P made
-    by_cases true known given = made_with_room (upload_where (blob_at s space (named content.bytes)) space content (hour_of s hour)) (entry known (blob_at s space (named content.bytes)) refl) answer made given
+    by_cases : (there : Bool) → has_space s space ≡ there → EntryWhere (if there then with_room s (upload_where (blob_at s space (content_hash content.bytes)) space content (hour_of s hour)) else Err UnknownSpace) answer made → P made
+    by_cases true known given = made_with_room (upload_where (blob_at s space (content_hash content.bytes)) space content (hour_of s hour)) (entry known (blob_at s space (content_hash content.bytes)) refl) answer made given
     by_cases false known (_, is) = subst P (sym is) none
 
   pub made_by_put : (name : RefName) (content : Content) (hour : ℕ)
-      → (has_space s name.space ≡ true → (needs : List IoHash) → AreNeeds (links_in (with_object s name content hour) name.space) (named content.bytes) needs → P (Some (put_entry s name content needs hour)))
+      → (has_space s name.space ≡ true → (needs : List IoHash) → AreNeeds (links_in (with_object s name content hour) name.space) (content_hash content.bytes) needs → P (Some (put_entry s name content needs hour)))
       → (answer : Result (List IoHash) StoreFault) (made : Option Entry) → PutAs s name content hour answer made → P made
   made_by_put name content hour some answer made gives = by_cases (has_space s name.space) refl gives where
     by_fault : has_space s name.space ≡ true → (fault : Option StoreFault) → PutWhere fault s name content hour answer made → P made

@@ -12,14 +12,14 @@ use Rattle.std.proofs.lemmas.Map.Keys.{sorted_head, sorted_tail}
 use Rattle.ddc_names.specs.declared.hash.IoHash.{IoHash}
 use Rattle.ddc_names.specs.Orders.{io_hash_cmp, io_hash_exact, io_hash_total}
 use Rattle.cb_fields.specs.declared.links.Link.{Link}
-use Rattle.cb_fields.proofs.Laws.{one_object}
-use Rattle.ddc_model.specs.Content.{Content, IsRead}
-use Rattle.ddc_model.specs.Closure.{Links, object, LeadsTo, Walk, IsReached, has_hash, IsWhole}
+use Rattle.cb_fields.proofs.Theorems.{one_object}
+use Rattle.ddc_model.specs.Content.{Content, AreLinksOf}
+use Rattle.ddc_model.specs.Closure.{Links, object, LeadsTo, LeadsToIn, IsReached, has_hash, IsWhole}
 use Rattle.ddc_model.specs.Laws.{OneContent, OneListOfNeeds, WholeStaysWhole}
 
 -- ---- contents
 
-same_read : (bytes : List ℕ) (is_object other : Bool) (links others : List Link) → IsRead bytes is_object links → IsRead bytes other others → (is_object ≡ other) × (links ≡ others)
+same_read : (bytes : List ℕ) (is_object other : Bool) (links others : List Link) → AreLinksOf bytes is_object links → AreLinksOf bytes other others → (is_object ≡ other) × (links ≡ others)
 same_read bytes true true links others a b = (refl, one_object bytes links others a b)
 same_read bytes true false links others a b = absurd (b.0 links a)
 same_read bytes false true links others a b = absurd (a.0 others b)
@@ -27,7 +27,7 @@ same_read bytes false false links others a b = (refl, a.1 ∙ sym b.1)
 
 pub content_once : OneContent
 content_once content other e c d =
-    let same = same_read other.bytes content.is_object other.is_object content.links other.links (subst (λ (bytes : List ℕ). IsRead bytes content.is_object content.links) e c) d in
+    let same = same_read other.bytes content.is_object other.is_object content.links other.links (subst (λ (bytes : List ℕ). AreLinksOf bytes content.is_object content.links) e c) d in
     ap (λ (p : List ℕ × (Bool × List Link)). let made : Content = record { bytes = p.0; is_object = p.1.0; links = p.1.1 } in made) (λ i. (e i, (same.0 i, same.1 i)))
 
 -- ---- lists of needs
@@ -111,11 +111,11 @@ module _ (links others : Links) (root new : IoHash) (none : links new ≡ None) 
   not_new : (node : Link) → IsReached links root node → node.hash ≡ new → ⊥
   not_new node reached e = whole node.hash (ap links e ∙ none, node.kind, reached)
 
-  walk_back : (node : Link) (n : ℕ) → Walk others (object root) node n → Walk links (object root) node n
+  walk_back : (node : Link) (n : ℕ) → LeadsToIn others (object root) node n → LeadsToIn links (object root) node n
   walk_back node zero w = w
   walk_back node (suc n) w =
       let before : Link = w.0 in
-      let walked : Walk links (object root) before n = walk_back before n w.1 in
+      let walked : LeadsToIn links (object root) before n = walk_back before n w.1 in
       let leads : LeadsTo others before node = w.2 in
       (before, walked, (leads.0, leads.1, sym (same before.hash (not_new before (n, walked))) ∙ leads.2, leads.3))
 

@@ -11,9 +11,9 @@ use Rattle.ddc_model.specs.declared.entry.Entry.TheVariants.{Put}
 use Rattle.ddc_model.specs.Keys.{blob_cmp}
 use Rattle.ddc_model.specs.State.{blob_name, blob_at}
 use Rattle.ddc_model.specs.Entries.{blob_of}
-use Rattle.ddc_model.specs.Content.{Content, IsContent, named}
+use Rattle.ddc_model.specs.Content.{Content, IsContent, content_hash}
 use Rattle.ddc_model.specs.Sound.{Cache, IsBlobOf, IsSound}
-use Rattle.ddc_model.specs.Commands.{hour_of, stored, fresh_where, is_empty, changed}
+use Rattle.ddc_model.specs.Commands.{hour_of, stored_content, fresh_where, needs_none, changed}
 use Rattle.ddc_model.specs.Laws.{KeepsWhole, EmptyIsSound, SpaceStaysSound, UploadStaysSound, PutStaysSound, FinaliseStaysSound, GetStaysSound, DeleteStaysSound}
 use Rattle.ddc_model.proofs.Made.{made_by_space, made_by_upload, made_by_put, made_by_finalise, made_by_get, made_by_delete}
 use Rattle.ddc_model.proofs.Whole.{space_whole, upload_whole, put_whole, finalise_whole, get_whole, delete_whole}
@@ -27,7 +27,7 @@ abbrev AddsBlob : List ℕ → Option Entry → Type 0
 AddsBlob bytes (Some entry) = Adds IsBlobOf blob_lasts entry bytes
 AddsBlob bytes None = ⊤
 
-blob_stored : (space : List ℕ) (content : Content) (hour : ℕ) → IsContent content → IsBlobOf (blob_name space (named content.bytes)) (blob_of (stored content) hour) content.bytes
+blob_stored : (space : List ℕ) (content : Content) (hour : ℕ) → IsContent content → IsBlobOf (blob_name space (content_hash content.bytes)) (blob_of (stored_content content) hour) content.bytes
 blob_stored space content hour read = record { hash = refl; length_is = refl; is_object = content.is_object; links = read }
 
 stays_sound : (cache : Cache) (bytes : List ℕ) (made : Option Entry) → IsSound cache → KeepsWhole cache.index made → AddsBlob bytes made → IsSound (changed cache bytes made)
@@ -61,8 +61,8 @@ upload_sound cache space content hour answer made sound read gives =
 pub put_sound : PutStaysSound
 put_sound cache name content hour answer made sound read gives =
     stays_sound cache content.bytes made sound (put_whole cache.index name content hour answer made sound.whole gives)
-    (made_by_put (AddsBlob content.bytes) tt cache.index name content hour (λ known needs are. adds needs (blob_at cache.index name.space (named content.bytes))) answer made gives) where
-      adds : (needs : List IoHash) (found : Option Blob) → AddsBlob content.bytes (Some (Put name (named content.bytes) (fresh_where found content) (is_empty needs) (hour_of cache.index hour)))
+    (made_by_put (AddsBlob content.bytes) tt cache.index name content hour (λ known needs are. adds needs (blob_at cache.index name.space (content_hash content.bytes))) answer made gives) where
+      adds : (needs : List IoHash) (found : Option Blob) → AddsBlob content.bytes (Some (Put name (content_hash content.bytes) (fresh_where found content) (needs_none needs) (hour_of cache.index hour)))
       adds needs None = blob_stored name.space content _ read
       adds needs (Some blob) = tt
 

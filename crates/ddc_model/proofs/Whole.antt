@@ -15,11 +15,11 @@ use Rattle.ddc_model.specs.declared.entry.Entry.{Entry}
 use Rattle.ddc_model.specs.declared.entry.Entry.TheVariants.{Space, Upload, Repin, Put, Finalise, Delete, Touch}
 use Rattle.ddc_model.specs.Keys.{blob_exact, blob_total}
 use Rattle.ddc_model.specs.State.{State, blob_name, blob_at, done_of}
-use Rattle.ddc_model.specs.Entries.{after, blob_of, pinned, slot_after, with_blob, with_pin, with_root, with_slot, with_touch}
-use Rattle.ddc_model.specs.Content.{named}
+use Rattle.ddc_model.specs.Entries.{after, blob_of, pinned, slot_after, with_blob, with_pin, with_put_root, with_slot, with_touch}
+use Rattle.ddc_model.specs.Content.{content_hash}
 use Rattle.ddc_model.specs.Closure.{Links, links_in, AreNeeds, IsWhole}
 use Rattle.ddc_model.specs.Sound.{AreWhole}
-use Rattle.ddc_model.specs.Commands.{hour_of, stored, fresh_where, with_object, is_empty, put_entry}
+use Rattle.ddc_model.specs.Commands.{hour_of, stored_content, fresh_where, with_object, needs_none, put_entry}
 use Rattle.ddc_model.specs.History.{IsLawful}
 use Rattle.ddc_model.specs.Laws.{KeepsWhole, SpaceKeepsWhole, UploadKeepsWhole, PutKeepsWhole, FinaliseKeepsWhole, GetKeepsWhole, DeleteKeepsWhole}
 use Rattle.ddc_model.proofs.Maps.{get_here, get_away, get_removed, get_left, same_or_not, same_some}
@@ -119,22 +119,22 @@ IsNew s (Finalise name hash hour) = ⊤
 IsNew s (Delete name hour) = ⊤
 IsNew s (Touch name hour) = ⊤
 
-root_stays : (s : State) → AreWhole s → (space : List ℕ) (root : IoHash) (fresh : Option Stored) (hour : ℕ) → IsNewIn s space fresh → AreWhole (with_root s space root fresh hour)
+root_stays : (s : State) → AreWhole s → (space : List ℕ) (root : IoHash) (fresh : Option Stored) (hour : ℕ) → IsNewIn s space fresh → AreWhole (with_put_root s space root fresh hour)
 root_stays s whole space root None hour new = blob_pinned s space root hour whole
 root_stays s whole space root (Some blob) hour new = blob_added s space blob new hour whole
 
-same_slots : (s : State) (space : List ℕ) (root : IoHash) (fresh : Option Stored) (hour : ℕ) → (with_root s space root fresh hour).slots ≡ s.slots
+same_slots : (s : State) (space : List ℕ) (root : IoHash) (fresh : Option Stored) (hour : ℕ) → (with_put_root s space root fresh hour).slots ≡ s.slots
 same_slots s space root None hour = refl
 same_slots s space root (Some blob) hour = refl
 
 put_stays : (s : State) → AreWhole s → (name : RefName) (root : IoHash) (fresh : Option Stored) (now_whole : Bool) (hour : ℕ) → IsLawful s (Put name root fresh now_whole hour) → IsNewIn s name.space fresh
-    → AreWhole (with_slot (with_root s name.space root fresh hour) name (slot_after (get s.slots name) root now_whole hour))
+    → AreWhole (with_slot (with_put_root s name.space root fresh hour) name (slot_after (get s.slots name) root now_whole hour))
 put_stays s whole name root fresh true hour lawful new =
-    slot_set (with_root s name.space root fresh hour) (root_stays s whole name.space root fresh hour new) name (slot_after (get s.slots name) root true hour)
-    (λ other done. subst (IsWhole (links_in (with_root s name.space root fresh hour) name.space)) (same_some root other done) (lawful.0 refl))
+    slot_set (with_put_root s name.space root fresh hour) (root_stays s whole name.space root fresh hour new) name (slot_after (get s.slots name) root true hour)
+    (λ other done. subst (IsWhole (links_in (with_put_root s name.space root fresh hour) name.space)) (same_some root other done) (lawful.0 refl))
 put_stays s whole name root fresh false hour lawful new =
-    slot_set (with_root s name.space root fresh hour) (root_stays s whole name.space root fresh hour new) name (slot_after (get s.slots name) root false hour)
-    (λ other done. done_whole (with_root s name.space root fresh hour) (root_stays s whole name.space root fresh hour new) name (get s.slots name)
+    slot_set (with_put_root s name.space root fresh hour) (root_stays s whole name.space root fresh hour new) name (slot_after (get s.slots name) root false hour)
+    (λ other done. done_whole (with_put_root s name.space root fresh hour) (root_stays s whole name.space root fresh hour new) name (get s.slots name)
     (ap (λ (slots : Slots). get slots name) (same_slots s name.space root fresh hour)) other done)
 
 touch_stays : (s : State) → AreWhole s → (name : RefName) (hour : ℕ) (found : Option Slot) → get s.slots name ≡ found → AreWhole (with_touch s name hour found)
@@ -158,7 +158,7 @@ keeps s entry whole lawful new = (lawful, stays_whole s entry whole lawful new)
 -- ---- the commands
 
 -- nothing is needed exactly where the closure is whole
-whole_or_needs : (links : Links) (root : IoHash) (needs : List IoHash) → AreNeeds links root needs → (is_empty needs ≡ true) ↔ IsWhole links root
+whole_or_needs : (links : Links) (root : IoHash) (needs : List IoHash) → AreNeeds links root needs → (needs_none needs ≡ true) ↔ IsWhole links root
 whole_or_needs links root [] are = (λ e. needless, λ w. refl) where
   not_true : IsTrue false → ⊥
   not_true e = cc
@@ -173,15 +173,15 @@ space_whole s space ttl pin answer made whole gives = made_by_space (KeepsWhole 
 pub upload_whole : UploadKeepsWhole
 upload_whole s space content hour answer made whole gives =
     made_by_upload (KeepsWhole s) tt s space content hour
-    (λ known none. keeps s (Upload space (stored content) (hour_of s hour)) whole tt none)
-    (λ known blob is. keeps s (Repin space (named content.bytes) (hour_of s hour)) whole tt tt) answer made gives
+    (λ known none. keeps s (Upload space (stored_content content) (hour_of s hour)) whole tt none)
+    (λ known blob is. keeps s (Repin space (content_hash content.bytes) (hour_of s hour)) whole tt tt) answer made gives
 
 pub put_whole : PutKeepsWhole
 put_whole s name content hour answer made whole gives =
     made_by_put (KeepsWhole s) tt s name content hour
-    (λ known needs are. keeps s (put_entry s name content needs hour) whole (whole_or_needs (links_in (with_object s name content hour) name.space) (named content.bytes) needs are)
-    (is_new (blob_at s name.space (named content.bytes)) refl)) answer made gives where
-      is_new : (found : Option Blob) → blob_at s name.space (named content.bytes) ≡ found → IsNewIn s name.space (fresh_where found content)
+    (λ known needs are. keeps s (put_entry s name content needs hour) whole (whole_or_needs (links_in (with_object s name content hour) name.space) (content_hash content.bytes) needs are)
+    (is_new (blob_at s name.space (content_hash content.bytes)) refl)) answer made gives where
+      is_new : (found : Option Blob) → blob_at s name.space (content_hash content.bytes) ≡ found → IsNewIn s name.space (fresh_where found content)
       is_new None is = is
       is_new (Some blob) is = tt
 

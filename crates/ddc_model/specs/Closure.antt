@@ -30,13 +30,13 @@ abbrev pub LeadsTo : Links → Link → Link → Type 0
 LeadsTo links node other = (node.kind ≡ Object) × (found : List Link) × (links node.hash ≡ Some found) × Contains found other
 
 -- so many steps lead from a node to another
-abbrev pub Walk : Links → Link → Link → ℕ → Type 0
-Walk links a b zero = a ≡ b
-Walk links a b (suc n) = (node : Link) × Walk links a node n × LeadsTo links node b
+abbrev pub LeadsToIn : Links → Link → Link → ℕ → Type 0
+LeadsToIn links a b zero = a ≡ b
+LeadsToIn links a b (suc n) = (node : Link) × LeadsToIn links a node n × LeadsTo links node b
 
 -- the node is in the closure of the object
 abbrev pub IsReached : Links → IoHash → Link → Type 0
-IsReached links root node = (n : ℕ) × Walk links (object root) node n
+IsReached links root node = (n : ℕ) × LeadsToIn links (object root) node n
 
 -- the hash is in the closure, and no blob of it is there
 abbrev pub IsMissing : Links → IoHash → IoHash → Type 0

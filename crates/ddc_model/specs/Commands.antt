@@ -7,13 +7,13 @@ use Rattle.ref_store.specs.declared.slot.Slot.{Slot}
 use Rattle.ddc_model.specs.declared.rows.Blob.{Blob}
 use Rattle.ddc_model.specs.declared.entry.Stored.{Stored}
 use Rattle.ddc_model.specs.declared.entry.Entry.{Entry}
-use Rattle.ddc_model.specs.declared.entry.Entry.TheVariants.{Space, Upload, Repin, Put, Finalise, Delete, Touch}
+use Rattle.ddc_model.specs.declared.entry.Entry.TheVariants.{Space, Upload, Repin, Put, Finalise, Touch}
 use Rattle.ddc_model.specs.declared.fault.StoreFault.{StoreFault}
 use Rattle.ddc_model.specs.declared.fault.StoreFault.TheVariants.{UnknownSpace, NotFound, NotFinalised, NotPending}
 use Rattle.ddc_model.specs.Keys.{blob_cmp}
 use Rattle.ddc_model.specs.State.{State, blob_name, blob_at, has_space}
-use Rattle.ddc_model.specs.Entries.{after, is_hash, with_root}
-use Rattle.ddc_model.specs.Content.{Content, named}
+use Rattle.ddc_model.specs.Entries.{after, is_hash, with_put_root}
+use Rattle.ddc_model.specs.Content.{Content, content_hash}
 use Rattle.ddc_model.specs.Closure.{links_in, AreNeeds}
 use Rattle.ddc_model.specs.Counts.{full}
 use Rattle.ddc_model.specs.Sound.{Cache}
@@ -23,8 +23,8 @@ abbrev pub hour_of : State → ℕ → ℕ
 hour_of s hour = max s.hour hour
 
 -- a blob of these contents
-abbrev pub stored : Content → Stored
-stored content = record { hash = named content.bytes; len = length content.bytes; start = 0; links = content.links }
+abbrev pub stored_content : Content → Stored
+stored_content content = record { hash = content_hash content.bytes; len = length content.bytes; start = 0; links = content.links }
 
 -- an entry, where the limits have room for it
 abbrev pub unless : {A : Type 0} → Option StoreFault → A → Result A StoreFault
@@ -50,12 +50,12 @@ SpaceAs s space ttl pin answer made = EntryWhere (with_room s (Some (Space space
 
 -- a blob that isn't there is added, and one that was stored or named at an earlier hour is pinned
 abbrev pub upload_where : Option Blob → List ℕ → Content → ℕ → Option Entry
-upload_where None space content hour = Some (Upload space (stored content) hour)
-upload_where (Some blob) space content hour = if nat_lt blob.row.at hour then Some (Repin space (named content.bytes) hour) else None
+upload_where None space content hour = Some (Upload space (stored_content content) hour)
+upload_where (Some blob) space content hour = if nat_lt blob.row.at hour then Some (Repin space (content_hash content.bytes) hour) else None
 
 abbrev pub upload_entry : State → List ℕ → Content → ℕ → Result (Option Entry) StoreFault
 upload_entry s space content hour =
-    if has_space s space then with_room s (upload_where (blob_at s space (named content.bytes)) space content (hour_of s hour)) else Err UnknownSpace
+    if has_space s space then with_room s (upload_where (blob_at s space (content_hash content.bytes)) space content (hour_of s hour)) else Err UnknownSpace
 
 abbrev pub UploadAs : State → List ℕ → Content → ℕ → Result (Unit {0}) StoreFault → Option Entry → Type 0
 UploadAs s space content hour answer made = EntryWhere (upload_entry s space content hour) answer made
@@ -64,23 +64,23 @@ UploadAs s space content hour answer made = EntryWhere (upload_entry s space con
 
 -- the blob of the object, where it isn't there
 abbrev pub fresh_where : Option Blob → Content → Option Stored
-fresh_where None content = Some (stored content)
+fresh_where None content = Some (stored_content content)
 fresh_where (Some blob) content = None
 
 abbrev pub fresh_root : State → RefName → Content → Option Stored
-fresh_root s name content = fresh_where (blob_at s name.space (named content.bytes)) content
+fresh_root s name content = fresh_where (blob_at s name.space (content_hash content.bytes)) content
 
 -- the state in which the object is stored
 abbrev pub with_object : State → RefName → Content → ℕ → State
-with_object s name content hour = with_root s name.space (named content.bytes) (fresh_root s name content) (hour_of s hour)
+with_object s name content hour = with_put_root s name.space (content_hash content.bytes) (fresh_root s name content) (hour_of s hour)
 
-abbrev pub is_empty : {A : Type 0} → List A → Bool
-is_empty [] = true
-is_empty (x ∷ xs) = false
+abbrev pub needs_none : {A : Type 0} → List A → Bool
+needs_none [] = true
+needs_none (x ∷ xs) = false
 
 -- the object is finalised at once where nothing is missing
 abbrev pub put_entry : State → RefName → Content → List IoHash → ℕ → Entry
-put_entry s name content needs hour = Put name (named content.bytes) (fresh_root s name content) (is_empty needs) (hour_of s hour)
+put_entry s name content needs hour = Put name (content_hash content.bytes) (fresh_root s name content) (needs_none needs) (hour_of s hour)
 
 -- why a put is refused, whatever its object needs
 abbrev pub put_fault : State → RefName → Content → ℕ → Option StoreFault
@@ -90,7 +90,7 @@ put_fault s name content hour = if has_space s name.space then full s (put_entry
 abbrev pub PutWhere : Option StoreFault → State → RefName → Content → ℕ → Result (List IoHash) StoreFault → Option Entry → Type 0
 PutWhere (Some fault) s name content hour answer made = (answer ≡ Err fault) × (made ≡ None)
 PutWhere None s name content hour answer made =
-    (needs : List IoHash) × AreNeeds (links_in (with_object s name content hour) name.space) (named content.bytes) needs × (answer ≡ Ok needs) × (made ≡ Some (put_entry s name content needs hour))
+    (needs : List IoHash) × AreNeeds (links_in (with_object s name content hour) name.space) (content_hash content.bytes) needs × (answer ≡ Ok needs) × (made ≡ Some (put_entry s name content needs hour))
 
 abbrev pub PutAs : State → RefName → Content → ℕ → Result (List IoHash) StoreFault → Option Entry → Type 0
 PutAs s name content hour answer made = PutWhere (put_fault s name content hour) s name content hour answer made
@@ -106,7 +106,7 @@ abbrev pub is_done : State → RefName → IoHash → Result Bool StoreFault
 is_done s name hash = if has_space s name.space then is_done_at (get s.slots name) hash else Err UnknownSpace
 
 abbrev pub finalise_entry : State → RefName → IoHash → List IoHash → ℕ → Option Entry
-finalise_entry s name hash needs hour = if is_empty needs then Some (Finalise name hash (hour_of s hour)) else None
+finalise_entry s name hash needs hour = if needs_none needs then Some (Finalise name hash (hour_of s hour)) else None
 
 -- the answer is what is missing of a pending object, which is finalised where that is nothing
 abbrev pub FinaliseWhere : Result Bool StoreFault → State → RefName → IoHash → ℕ → Result (List IoHash) StoreFault → Option Entry → Type 0
@@ -165,13 +165,9 @@ kept_where all space (Some blob) bytes = insert all (blob_name space blob.hash) 
 kept_where all space None bytes = all
 
 abbrev pub kept : FinMap blob_cmp (List ℕ) → Entry → List ℕ → FinMap blob_cmp (List ℕ)
-kept all (Space space ttl pin) bytes = all
 kept all (Upload space blob hour) bytes = kept_where all space (Some blob) bytes
-kept all (Repin space hash hour) bytes = all
 kept all (Put name root fresh whole hour) bytes = kept_where all name.space fresh bytes
-kept all (Finalise name hash hour) bytes = all
-kept all (Delete name hour) bytes = all
-kept all (Touch name hour) bytes = all
+kept all entry bytes = all
 
 -- the state and the bytes after the entry of a command with these bytes, where it makes one
 abbrev pub changed : Cache → List ℕ → Option Entry → Cache

@@ -6,8 +6,8 @@ use Rattle.cb_fields.specs.declared.links.Link.{Link}
 use Rattle.cb_fields.specs.Language.{IsObject, IsNoObject}
 
 -- the hash that names these bytes
-abbrev pub named : List ℕ → IoHash
-named bytes = record { 0 = io bytes }
+abbrev pub content_hash : List ℕ → IoHash
+content_hash bytes = record { 0 = io bytes }
 
 -- bytes, whether they are an object, and the links of that object
 pub record Content : Type 0 where
@@ -16,9 +16,9 @@ pub record Content : Type 0 where
   pub links : List Link
 
 -- the links are those of the object that the bytes are; bytes that are no object have none
-abbrev pub IsRead : List ℕ → Bool → List Link → Type 0
-IsRead bytes true links = IsObject bytes links
-IsRead bytes false links = IsNoObject bytes × (links ≡ [])
+abbrev pub AreLinksOf : List ℕ → Bool → List Link → Type 0
+AreLinksOf bytes true links = IsObject bytes links
+AreLinksOf bytes false links = IsNoObject bytes × (links ≡ [])
 
 abbrev pub IsContent : Content → Type 0
-IsContent content = IsRead content.bytes content.is_object content.links
+IsContent content = AreLinksOf content.bytes content.is_object content.links

@@ -5,7 +5,7 @@ use Rattle.ddc_model.specs.declared.rows.Blob.{Blob}
 use Rattle.ddc_model.specs.declared.rows.BlobName.{BlobName}
 use Rattle.ddc_model.specs.declared.entry.Stored.{Stored}
 use Rattle.ddc_model.specs.declared.entry.Entry.{Entry}
-use Rattle.ddc_model.specs.declared.entry.Entry.TheVariants.{Space, Upload, Repin, Put, Finalise, Delete, Touch}
+use Rattle.ddc_model.specs.declared.entry.Entry.TheVariants.{Space, Upload, Put}
 use Rattle.ddc_model.specs.declared.fault.StoreFault.{StoreFault}
 use Rattle.ddc_model.specs.declared.fault.StoreFault.TheVariants.{Full}
 use Rattle.ddc_model.specs.declared.fault.What.TheVariants.{Spaces, Blobs, Refs, Links}
@@ -22,13 +22,9 @@ link_count s = links_of_all (entries s.blobs)
 
 -- the blob that an entry adds
 abbrev pub fresh_of : Entry → Option Stored
-fresh_of (Space space ttl pin) = None
 fresh_of (Upload space blob hour) = Some blob
-fresh_of (Repin space hash hour) = None
 fresh_of (Put name root fresh whole hour) = fresh
-fresh_of (Finalise name hash hour) = None
-fresh_of (Delete name hour) = None
-fresh_of (Touch name hour) = None
+fresh_of entry = None
 
 abbrev pub added_blobs : Option Stored → ℕ
 added_blobs (Some blob) = 1
@@ -44,21 +40,11 @@ added there = if there then 0 else 1
 
 abbrev pub added_spaces : State → Entry → ℕ
 added_spaces s (Space space ttl pin) = added (has_space s space)
-added_spaces s (Upload space blob hour) = 0
-added_spaces s (Repin space hash hour) = 0
-added_spaces s (Put name root fresh whole hour) = 0
-added_spaces s (Finalise name hash hour) = 0
-added_spaces s (Delete name hour) = 0
-added_spaces s (Touch name hour) = 0
+added_spaces s entry = 0
 
 abbrev pub added_refs : State → Entry → ℕ
-added_refs s (Space space ttl pin) = 0
-added_refs s (Upload space blob hour) = 0
-added_refs s (Repin space hash hour) = 0
 added_refs s (Put name root fresh whole hour) = added (is_some (get s.slots name))
-added_refs s (Finalise name hash hour) = 0
-added_refs s (Delete name hour) = 0
-added_refs s (Touch name hour) = 0
+added_refs s entry = 0
 
 -- the number is raised, and past the limit
 abbrev pub passes : ℕ → ℕ → ℕ → Bool

@@ -50,8 +50,8 @@ legal s (Touch name hour) = has_space s name.space && is_some (done_of (get s.sl
 -- ---- what each leaves
 
 -- the state at this hour, where it is later
-abbrev pub raised : State → ℕ → State
-raised s hour = record s { hour = max s.hour hour }
+abbrev pub at_hour : State → ℕ → State
+at_hour s hour = record s { hour = max s.hour hour }
 
 -- the smallest number of units of 4,096 bytes that holds so many bytes
 abbrev pub units_of : ℕ → ℕ
@@ -72,9 +72,9 @@ abbrev pub with_pin : State → List ℕ → IoHash → ℕ → State
 with_pin s space hash hour = record s { blobs = pinned s.blobs (blob_name space hash) hour (get s.blobs (blob_name space hash)) }
 
 -- the root of a put is added, or pinned
-abbrev pub with_root : State → List ℕ → IoHash → Option Stored → ℕ → State
-with_root s space root None hour = with_pin s space root hour
-with_root s space root (Some blob) hour = with_blob s space blob hour
+abbrev pub with_put_root : State → List ℕ → IoHash → Option Stored → ℕ → State
+with_put_root s space root None hour = with_pin s space root hour
+with_put_root s space root (Some blob) hour = with_blob s space blob hour
 
 abbrev pub with_slot : State → RefName → Slot → State
 with_slot s name slot = record s { slots = insert s.slots name slot }
@@ -92,9 +92,9 @@ with_touch s name hour None = s
 -- what an entry leaves
 abbrev pub after : State → Entry → State
 after s (Space space ttl pin) = record s { spaces = insert s.spaces space (record { ttl = ttl; pin = pin }) }
-after s (Upload space blob hour) = raised (with_blob s space blob hour) hour
-after s (Repin space hash hour) = raised (with_pin s space hash hour) hour
-after s (Put name root fresh whole hour) = raised (with_slot (with_root s name.space root fresh hour) name (slot_after (get s.slots name) root whole hour)) hour
-after s (Finalise name hash hour) = raised (with_slot s name (record { done = Some hash; pending = None; seen = hour })) hour
-after s (Delete name hour) = raised (record s { slots = remove s.slots name }) hour
-after s (Touch name hour) = raised (with_touch s name hour (get s.slots name)) hour
+after s (Upload space blob hour) = at_hour (with_blob s space blob hour) hour
+after s (Repin space hash hour) = at_hour (with_pin s space hash hour) hour
+after s (Put name root fresh whole hour) = at_hour (with_slot (with_put_root s name.space root fresh hour) name (slot_after (get s.slots name) root whole hour)) hour
+after s (Finalise name hash hour) = at_hour (with_slot s name (record { done = Some hash; pending = None; seen = hour })) hour
+after s (Delete name hour) = at_hour (record s { slots = remove s.slots name }) hour
+after s (Touch name hour) = at_hour (with_touch s name hour (get s.slots name)) hour

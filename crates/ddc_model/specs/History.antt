@@ -2,22 +2,21 @@
 use Rattle.std.specs.Prelude.{◌≡◌, ℕ, ◌+◌, ◌-◌, ◌^◌, ◌≤◌, ◌||◌, true, min, List, [], ◌∷◌, ◌++◌, Option, None, Some, Result, Err, nat_lt, if◌then◌else◌, ⊤, ◌↔◌}
 use Rattle.ddc_model.specs.declared.rows.Limits.{Limits}
 use Rattle.ddc_model.specs.declared.entry.Entry.{Entry}
-use Rattle.ddc_model.specs.declared.entry.Entry.TheVariants.{Space, Upload, Repin, Put, Finalise, Delete, Touch}
+use Rattle.ddc_model.specs.declared.entry.Entry.TheVariants.{Put, Finalise}
 use Rattle.ddc_model.specs.declared.entry.Step.{Step}
 use Rattle.ddc_model.specs.declared.entry.Step.TheVariants.{Loaded, Change, Broke}
 use Rattle.ddc_model.specs.declared.fault.StoreFault.{StoreFault}
 use Rattle.ddc_model.specs.declared.fault.StoreFault.TheVariants.{Broken, HistoryFull}
 use Rattle.ddc_model.specs.State.{State, empty_state}
-use Rattle.ddc_model.specs.Entries.{after, with_root}
+use Rattle.ddc_model.specs.Entries.{after, with_put_root}
 use Rattle.ddc_model.specs.Closure.{links_in, IsWhole}
 use Rattle.ddc_model.specs.Counts.{added_links, fresh_of}
 
 -- ---- what the steps leave
 
 abbrev pub after_step : State → Step → State
-after_step s (Loaded limits faults) = s
 after_step s (Change entry) = after s entry
-after_step s (Broke changed before now) = s
+after_step s step = s
 
 -- the state after all of the steps
 abbrev pub after_steps : State → List Step → State
@@ -32,12 +31,12 @@ pub record Past : Type 0 where
 abbrev pub none_yet : Past
 none_yet = record { entries = 0; links = 0 }
 
-abbrev pub with_entry : Past → Entry → Past
-with_entry past entry = record { entries = past.entries + 1; links = past.links + added_links (fresh_of entry) }
+abbrev pub one_entry_more : Past → Entry → Past
+one_entry_more past entry = record { entries = past.entries + 1; links = past.links + added_links (fresh_of entry) }
 
 abbrev pub past_after : Past → Step → Past
 past_after past (Loaded limits faults) = none_yet
-past_after past (Change entry) = with_entry past entry
+past_after past (Change entry) = one_entry_more past entry
 past_after past (Broke changed before now) = past
 
 abbrev pub past_of_all : Past → List Step → Past
@@ -50,21 +49,16 @@ past_of steps = past_of_all none_yet steps
 -- the count of faults at which the store broke, if it did
 abbrev pub broken_by : List Step → Option ℕ
 broken_by [] = None
-broken_by (Loaded limits faults ∷ steps) = broken_by steps
-broken_by (Change entry ∷ steps) = broken_by steps
 broken_by (Broke changed before now ∷ steps) = Some now
+broken_by (step ∷ steps) = broken_by steps
 
 -- ---- which steps are lawful where they stand
 
 -- a reference is finalised only with its closure whole, and at a put exactly then
 abbrev pub IsLawful : State → Entry → Type 0
-IsLawful s (Space space ttl pin) = ⊤
-IsLawful s (Upload space blob hour) = ⊤
-IsLawful s (Repin space hash hour) = ⊤
-IsLawful s (Put name root fresh whole hour) = (whole ≡ true) ↔ IsWhole (links_in (with_root s name.space root fresh hour) name.space) root
+IsLawful s (Put name root fresh whole hour) = (whole ≡ true) ↔ IsWhole (links_in (with_put_root s name.space root fresh hour) name.space) root
 IsLawful s (Finalise name hash hour) = IsWhole (links_in s name.space) hash
-IsLawful s (Delete name hour) = ⊤
-IsLawful s (Touch name hour) = ⊤
+IsLawful s entry = ⊤
 
 -- the steps behind an opening at this count of faults; nothing follows one that broke the store
 abbrev pub AreLawful : ℕ → State → List Step → Type 0

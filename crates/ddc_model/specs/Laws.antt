@@ -74,9 +74,9 @@ DeleteStaysSound = (cache : Cache) (name : RefName) (hour : ℕ) (answer : Resul
 abbrev pub SoundHasBytes : Type 0
 SoundHasBytes = (cache : Cache) → IsSound cache → HasBytes cache
 
--- a legal entry keeps that each blob has bytes, where those of a blob that it adds have its length
-abbrev pub LegalKeepsBytes : Type 0
-LegalKeepsBytes = (cache : Cache) (entry : Entry) (bytes : List ℕ) → HasBytes cache → legal cache.index entry ≡ true → IfSome (fresh_of entry) (λ blob. blob.len ≡ length bytes) → HasBytes (changed cache bytes (Some entry))
+-- an entry keeps that each blob has bytes, where those of a blob that it adds have its length
+abbrev pub EntryKeepsBytes : Type 0
+EntryKeepsBytes = (cache : Cache) (entry : Entry) (bytes : List ℕ) → HasBytes cache → IfSome (fresh_of entry) (λ blob. blob.len ≡ length bytes) → HasBytes (changed cache bytes (Some entry))
 
 -- the entry that is made, where there is one, is lawful, and leaves the finalised references whole
 abbrev pub KeepsWhole : State → Option Entry → Type 0

@@ -10,3 +10,4 @@ pub mod Commands
 pub mod History
 pub mod Reads
 pub mod Laws
+pub mod Refusals

@@ -12,7 +12,7 @@ use Rattle.ddc_model.specs.declared.fault.StoreFault.{StoreFault}
 use Rattle.ddc_model.specs.declared.fault.StoreFault.TheVariants.{UnknownSpace, NotFound, Damaged}
 use Rattle.ddc_model.specs.State.{State, blob_at, has_blob, has_space}
 use Rattle.ddc_model.specs.Entries.{same_hash}
-use Rattle.ddc_model.specs.Content.{named}
+use Rattle.ddc_model.specs.Content.{content_hash}
 use Rattle.ddc_model.specs.Closure.{has_hash}
 use Rattle.ddc_model.specs.Sound.{Cache}
 use Rattle.ddc_model.specs.Commands.{EntryWhere, GetAs, fetch, hour_of, object_of}
@@ -22,7 +22,7 @@ use Rattle.ddc_model.specs.History.{Past, no_room_for}
 
 -- bytes are served under this name, or are damaged
 abbrev pub undamaged : IoHash → List ℕ → Result (List ℕ) StoreFault
-undamaged hash bytes = if same_hash (named bytes) hash then Ok bytes else Err (Damaged hash (named bytes))
+undamaged hash bytes = if same_hash (content_hash bytes) hash then Ok bytes else Err (Damaged hash (content_hash bytes))
 
 abbrev pub served : IoHash → Result (List ℕ) StoreFault → Result (List ℕ) StoreFault
 served hash (Ok bytes) = undamaged hash bytes

@@ -11,7 +11,7 @@ use Rattle.ddc_model.specs.declared.rows.BlobName.{BlobName}
 use Rattle.ddc_model.specs.declared.rows.Limits.{Limits}
 use Rattle.ddc_model.specs.Keys.{blob_cmp}
 use Rattle.ddc_model.specs.State.{State, empty_state}
-use Rattle.ddc_model.specs.Content.{IsRead, named}
+use Rattle.ddc_model.specs.Content.{AreLinksOf, content_hash}
 use Rattle.ddc_model.specs.Closure.{links_in, IsWhole}
 
 -- a state, and the bytes of each blob
@@ -24,10 +24,10 @@ empty_cache limits = record { index = empty_state limits; bytes = empty }
 
 -- the blob's bytes have the hash that names it, and its length and links are theirs
 pub record IsBlobOf (name : BlobName) (blob : Blob) (bytes : List ℕ) : Type 0 where
-  pub hash : name.hash ≡ named bytes
+  pub hash : name.hash ≡ content_hash bytes
   pub length_is : blob.row.len ≡ length bytes
   pub is_object : Bool
-  pub links : IsRead bytes is_object blob.links
+  pub links : AreLinksOf bytes is_object blob.links
 
 -- each blob has bytes, as many as its row says, and nothing else has
 pub record HasBytes (cache : Cache) : Type 0 where

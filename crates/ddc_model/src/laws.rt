@@ -2,7 +2,7 @@
 ghost use Rattle.ddc_model.specs.Laws.{OneContent, LinksFit, OneListOfNeeds, WholeStaysWhole};
 ghost use Rattle.ddc_model.specs.Laws.{EmptyIsSound, SpaceStaysSound, UploadStaysSound, PutStaysSound, FinaliseStaysSound, GetStaysSound, DeleteStaysSound};
 ghost use Rattle.ddc_model.specs.Laws.{SpaceIsLegal, UploadIsLegal, PutIsLegal, FinaliseIsLegal, GetIsLegal, DeleteIsLegal};
-ghost use Rattle.ddc_model.specs.Laws.{SoundHasBytes, LegalKeepsBytes, SpaceKeepsWhole, UploadKeepsWhole, PutKeepsWhole, FinaliseKeepsWhole, GetKeepsWhole, DeleteKeepsWhole};
+ghost use Rattle.ddc_model.specs.Laws.{SoundHasBytes, EntryKeepsBytes, SpaceKeepsWhole, UploadKeepsWhole, PutKeepsWhole, FinaliseKeepsWhole, GetKeepsWhole, DeleteKeepsWhole};
 
 /// Bytes have one list of links, and are an object or none.
 pub fn one_content()
@@ -39,7 +39,7 @@ pub fn commands_stay_sound()
 /// closure.
 pub fn commands_keep_whole()
     ensures sound { SoundHasBytes }
-    ensures bytes { LegalKeepsBytes }
+    ensures bytes { EntryKeepsBytes }
     ensures space { SpaceKeepsWhole }
     ensures upload { UploadKeepsWhole }
     ensures put { PutKeepsWhole }

@@ -9,8 +9,8 @@ use Rattle.httparse.specs.Grammar.{RequestHead, print_request, is_token_byte, is
 use Rattle.httparse.proofs.GrammarLemmas.{request_unique, print_request-append}
 use Rattle.std.specs.Prelude.{Bool, false}
 use Rattle.cb_fields.specs.Language.{IsObject}
-use Rattle.cb_fields.proofs.Laws.{fault_is_no_object, one_fault}
-use Rattle.ddc_model.specs.Content.{Content, IsContent, IsRead}
+use Rattle.cb_fields.proofs.Theorems.{fault_is_no_object, one_fault}
+use Rattle.ddc_model.specs.Content.{Content, IsContent, AreLinksOf}
 use Rattle.ddc_model.proofs.Once.{content_once}
 use Rattle.ddc_protocol.specs.declared.form.Form.{Form}
 use Rattle.ddc_protocol.specs.declared.form.Form.TheVariants.{PutBlob, GetBlob, PutRef, GetRef, Finalise}
@@ -28,7 +28,7 @@ behind_head bytes text rest item s e = e ∙ ap (λ l. l ++ rest) s.spelled ∙ 
 
 -- the bytes of contents that are an object are one
 object_at : (content : Content) (body : List ℕ) → content.bytes ≡ body → IsContent content → content.is_object ≡ true → IsObject body content.links
-object_at content body e k o = subst (λ (bytes : List ℕ). IsObject bytes content.links) e (subst (λ (b : Bool). IsRead content.bytes b content.links) o k)
+object_at content body e k o = subst (λ (bytes : List ℕ). IsObject bytes content.links) e (subst (λ (b : Bool). AreLinksOf content.bytes b content.links) o k)
 
 -- one form and one body ask one thing
 asks_once : (form : Form) (body : List ℕ) (item other : Item) → Asks body form item → Asks body form other → item ≡ other

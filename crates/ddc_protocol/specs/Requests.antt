@@ -5,7 +5,7 @@ use Rattle.ddc_names.specs.declared.hash.IoHash.{IoHash}
 use Rattle.ddc_names.specs.declared.reference.RefName.{RefName}
 use Rattle.tree_hash.specs.TreeHash.{io}
 use Rattle.cb_fields.specs.Fault.{FaultAt}
-use Rattle.ddc_model.specs.Content.{Content, IsContent, named}
+use Rattle.ddc_model.specs.Content.{Content, IsContent, content_hash}
 use Rattle.ddc_protocol.specs.declared.form.Form.{Form}
 use Rattle.ddc_protocol.specs.declared.form.Form.TheVariants.{PutBlob, GetBlob, PutRef, GetRef, Finalise}
 use Rattle.ddc_protocol.specs.Fields.{same_text}
@@ -49,7 +49,7 @@ pub data Item : Type 0 where
 -- under a reference
 pub data Asks (body : List ℕ) : Form → Item → Type 0 where
   stores : {space : List ℕ} {hash : IoHash} {size : ℕ} (content : Content) → content.bytes ≡ body → IsContent content → same_text (io body) hash.0 ≡ true → Asks body (PutBlob space hash size) (put_blob space content)
-  mismatches : {space : List ℕ} {hash : IoHash} {size : ℕ} → same_text (io body) hash.0 ≡ false → Asks body (PutBlob space hash size) (mismatch hash (named body))
+  mismatches : {space : List ℕ} {hash : IoHash} {size : ℕ} → same_text (io body) hash.0 ≡ false → Asks body (PutBlob space hash size) (mismatch hash (content_hash body))
   fetches : {space : List ℕ} {hash : IoHash} → Asks body (GetBlob space hash) (get_blob space hash)
   puts : {name : RefName} {size : ℕ} (content : Content) → content.bytes ≡ body → IsContent content → content.is_object ≡ true → Asks body (PutRef name size) (put_ref name content)
   breaks : {name : RefName} {size at : ℕ} → FaultAt body at → Asks body (PutRef name size) (not_object at)

@@ -20,7 +20,7 @@ pub struct Checked {
 }
 
 impl Model for Checked {
-    ghost use Rattle.ddc_model.specs.Content.{Content, IsRead};
+    ghost use Rattle.ddc_model.specs.Content.{Content, AreLinksOf};
     ghost use Rattle.ddc_state.specs.Views.{coded_content};
 
     ghost Value = { Content };
@@ -29,7 +29,7 @@ impl Model for Checked {
 
     ghost view = { λ c. record { bytes = c.whole; is_object = c.is_object; links = c.links } };
 
-    ghost invariant = { λ c. IsRead c.whole c.is_object c.links };
+    ghost invariant = { λ c. AreLinksOf c.whole c.is_object c.links };
 }
 
 impl Checked {

@@ -9,8 +9,6 @@ mod blobs;
 mod checked;
 mod index;
 mod packed;
-#[cfg(test)]
-mod plain;
 mod spaces;
 #[cfg(test)]
 mod tests;

@@ -1,8 +1,6 @@
-//! Entries whose effect a reader can work out by eye, and the plain program beside the index.
+//! Entries whose effect a reader can work out by eye. Entries drawn by the hundred are compared from outside, through the
+//! program.
 
-ghost use Rattle.std.specs.Prelude.{◌<◌, max};
-
-use crate::plain::Plain;
 use crate::{Checked, Index};
 use cb_fields::{Link, LinkKind};
 use ddc_model::{BlobRow, Entry, Extent, Limits, NameBox, SpaceRow, Stored};
@@ -12,38 +10,373 @@ use ref_store::Slot;
 use std::alloc::Global;
 use std::test::Fail;
 
+// An entry, whose hour is the number at its end (that of an upload is 100). There is one reference in each namespace; blobs
+// are numbers, and each has a link to the object 2 and one to the binary 2.
+#[derive(Clone, Copy)]
+enum Deed {
+    Space(&'static str, u32, u32),
+    Upload(&'static str, u8, u64),
+    Repin(&'static str, u8, u32),
+    /// The root is there.
+    Put(&'static str, u8, bool, u32),
+    /// The root is the first number, and the fresh blob the second.
+    PutFresh(&'static str, u8, u8, u32),
+    Finalise(&'static str, u8, u32),
+    Delete(&'static str, u32),
+    Touch(&'static str, u32),
+}
+
+// The reference of `game`: its finalised object, the one that waits, and the hour at which it was read last.
+#[derive(Clone, Copy)]
+enum Seen {
+    Nothing,
+    Done(u8, u32),
+    Waits(u8, u32),
+    Both(u8, u8, u32),
+}
+
+// An entry, whether it fits, and then: the hour, how many blobs there are, and the reference of `game`.
+type Row = (Deed, bool, u32, u64, Seen);
+
 fn hash_of(number: u8) -> IoHash {
     IoHash([number; 20])
 }
 
-fn link_to(kind: LinkKind, number: u8) -> Link {
+fn link_of(kind: LinkKind) -> Link {
     Link {
         kind,
-        hash: hash_of(number),
+        hash: hash_of(2),
     }
 }
 
-fn space_of(text: &str) -> Result<Namespace, Fail> {
-    Ok(Namespace::parse(text)?)
-}
-
-fn name_of(space: &str, key: u8) -> Result<RefName, Fail> {
+fn name_of(space: &str) -> Result<RefName, Fail> {
     Ok(RefName {
         space: Namespace::parse(space)?,
         spot: RefSpot {
             bucket: Bucket::parse("maps")?,
-            key: RefKey([key; 20]),
+            key: RefKey([7; 20]),
         },
     })
 }
 
-fn stored_of(alloc: Global, number: u8, len: u64, links: &[Link]) -> Result<Stored, NoMemory> {
+fn stored_of(alloc: Global, number: u8, len: u64) -> Result<Stored, NoMemory> {
+    let links = [link_of(LinkKind::Object), link_of(LinkKind::Binary)];
     Ok(Stored {
         hash: hash_of(number),
         len,
         start: 10,
-        links: Rows::of_vec(Vec::from_slice(alloc, links)?),
+        links: Rows::of_vec(Vec::from_slice(alloc, &links)?),
     })
+}
+
+fn upload_of(alloc: Global, space: Namespace, number: u8, len: u64) -> Result<Entry, NoMemory> {
+    Ok(Entry::Upload {
+        space,
+        blob: stored_of(alloc, number, len)?,
+        hour: 100,
+    })
+}
+
+fn put_of(
+    alloc: Global,
+    name: RefName,
+    root: u8,
+    whole: bool,
+    hour: u32,
+) -> Result<Entry, NoMemory> {
+    Ok(Entry::Put {
+        name: NameBox::new(alloc, name)?,
+        root: hash_of(root),
+        fresh: None,
+        whole,
+        hour,
+    })
+}
+
+fn put_fresh_of(
+    alloc: Global,
+    name: RefName,
+    root: u8,
+    fresh: u8,
+    hour: u32,
+) -> Result<Entry, NoMemory> {
+    let fresh = stored_of(alloc, fresh, 1)?;
+    Ok(Entry::Put {
+        name: NameBox::new(alloc, name)?,
+        root: hash_of(root),
+        fresh: Some(fresh),
+        whole: false,
+        hour,
+    })
+}
+
+fn finalise_of(alloc: Global, name: RefName, number: u8, hour: u32) -> Result<Entry, NoMemory> {
+    Ok(Entry::Finalise {
+        name: NameBox::new(alloc, name)?,
+        hash: hash_of(number),
+        hour,
+    })
+}
+
+fn entry_of(alloc: Global, deed: Deed) -> Result<Entry, Fail> {
+    Ok(match deed {
+        Deed::Space(space, ttl, pin) => Entry::Space {
+            space: Namespace::parse(space)?,
+            ttl,
+            pin,
+        },
+        Deed::Upload(space, number, len) => upload_of(
+            alloc,
+            Namespace::parse(space)?,
+            number,
+            len,
+        )?,
+        Deed::Repin(space, number, hour) => Entry::Repin {
+            space: Namespace::parse(space)?,
+            hash: hash_of(number),
+            hour,
+        },
+        Deed::Put(space, root, whole, hour) => put_of(alloc, name_of(space)?, root, whole, hour)?,
+        Deed::PutFresh(space, root, fresh, hour) => put_fresh_of(
+            alloc,
+            name_of(space)?,
+            root,
+            fresh,
+            hour,
+        )?,
+        Deed::Finalise(space, number, hour) => finalise_of(alloc, name_of(space)?, number, hour)?,
+        Deed::Delete(space, hour) => Entry::Delete {
+            name: NameBox::new(alloc, name_of(space)?)?,
+            hour,
+        },
+        Deed::Touch(space, hour) => Entry::Touch {
+            name: NameBox::new(alloc, name_of(space)?)?,
+            hour,
+        },
+    })
+}
+
+fn slot_of(seen: Seen) -> Option<Slot> {
+    let (done, pending, seen) = match seen {
+        Seen::Nothing => return None,
+        Seen::Done(done, hour) => (Some(hash_of(done)), None, hour),
+        Seen::Waits(pending, hour) => (None, Some(hash_of(pending)), hour),
+        Seen::Both(done, pending, hour) => (Some(hash_of(done)), Some(hash_of(pending)), hour),
+    };
+    Some(Slot {
+        done,
+        pending,
+        seen,
+    })
+}
+
+// Whether the entry fits; then its change is made.
+fn applies(alloc: Global, index: &mut Index, entry: &Entry) -> Result<bool, NoMemory> {
+    if !index.fits(entry) {
+        return Ok(false);
+    }
+    index.apply(alloc, entry)?;
+    Ok(true)
+}
+
+// Makes the change of a row, and tells whether the index is then as the row says.
+fn holds(alloc: Global, index: &mut Index, row: Row) -> Result<bool, Fail> {
+    let (deed, fits, hour, blobs, seen) = row;
+    let entry = entry_of(alloc, deed)?;
+    let fitted = applies(alloc, index, &entry)?;
+    Ok(
+        fitted == fits
+            && index.hour() == hour
+            && index.blob_count() == blobs
+            && index.link_count() == blobs.saturating_mul(2)
+            && index.refs().get(&name_of("game")?) == slot_of(seen),
+    )
+}
+
+// Makes the changes, and tells the place of the first row that doesn't hold.
+fn first_wrong(alloc: Global, index: &mut Index, rows: &[Row]) -> Result<Option<usize>, Fail> {
+    for (place, row) in rows.iter().enumerate() {
+        if !holds(alloc, index, *row)? {
+            return Ok(Some(place));
+        }
+    }
+    Ok(None)
+}
+
+const ROWS: [Row; 34] = [
+    (Deed::Space("game", 0, 1), false, 0, 0, Seen::Nothing),
+    (Deed::Space("game", 1, 0), false, 0, 0, Seen::Nothing),
+    (
+        Deed::Space("game", 1_000_001, 1),
+        false,
+        0,
+        0,
+        Seen::Nothing,
+    ),
+    (
+        Deed::Space("game", 1, 1_000_001),
+        false,
+        0,
+        0,
+        Seen::Nothing,
+    ),
+    (Deed::Upload("game", 1, 4097), false, 0, 0, Seen::Nothing),
+    (Deed::Space("game", 1_000_000, 1), true, 0, 0, Seen::Nothing),
+    (
+        Deed::Space("game", 24, 1_000_000),
+        true,
+        0,
+        0,
+        Seen::Nothing,
+    ),
+    (Deed::Upload("game", 1, 4097), true, 100, 1, Seen::Nothing),
+    // the blob is there; another is too long, or its namespace isn't there
+    (Deed::Upload("game", 1, 1), false, 100, 1, Seen::Nothing),
+    (
+        Deed::Upload("game", 2, 67_108_865),
+        false,
+        100,
+        1,
+        Seen::Nothing,
+    ),
+    (Deed::Upload("other", 2, 1), false, 100, 1, Seen::Nothing),
+    (
+        Deed::Upload("game", 5, 67_108_864),
+        true,
+        100,
+        2,
+        Seen::Nothing,
+    ),
+    // a repin raises the hour of a blob that is there, and no hour falls
+    (Deed::Repin("game", 2, 101), false, 100, 2, Seen::Nothing),
+    (Deed::Repin("game", 1, 101), true, 101, 2, Seen::Nothing),
+    (Deed::Repin("game", 1, 100), true, 101, 2, Seen::Nothing),
+    // there is no reference yet
+    (Deed::Finalise("game", 1, 101), false, 101, 2, Seen::Nothing),
+    (Deed::Delete("game", 101), false, 101, 2, Seen::Nothing),
+    (Deed::Touch("game", 101), false, 101, 2, Seen::Nothing),
+    // a root that is there, or the fresh blob and no other; a pending object can be finalised or taken away, and isn't read
+    (
+        Deed::Put("game", 2, true, 101),
+        false,
+        101,
+        2,
+        Seen::Nothing,
+    ),
+    (
+        Deed::PutFresh("game", 2, 3, 101),
+        false,
+        101,
+        2,
+        Seen::Nothing,
+    ),
+    (
+        Deed::PutFresh("game", 1, 1, 101),
+        false,
+        101,
+        2,
+        Seen::Nothing,
+    ),
+    (
+        Deed::Put("game", 1, false, 100),
+        true,
+        101,
+        2,
+        Seen::Waits(1, 100),
+    ),
+    (Deed::Touch("game", 101), false, 101, 2, Seen::Waits(1, 100)),
+    (
+        Deed::Finalise("game", 2, 101),
+        false,
+        101,
+        2,
+        Seen::Waits(1, 100),
+    ),
+    (
+        Deed::Finalise("other", 1, 101),
+        false,
+        101,
+        2,
+        Seen::Waits(1, 100),
+    ),
+    (
+        Deed::Finalise("game", 1, 102),
+        true,
+        102,
+        2,
+        Seen::Done(1, 102),
+    ),
+    (Deed::Touch("game", 109), true, 109, 2, Seen::Done(1, 109)),
+    // a pending object waits beside the finalised one
+    (
+        Deed::PutFresh("game", 3, 3, 105),
+        true,
+        109,
+        3,
+        Seen::Both(1, 3, 105),
+    ),
+    (
+        Deed::Touch("game", 107),
+        true,
+        109,
+        3,
+        Seen::Both(1, 3, 107),
+    ),
+    (
+        Deed::Put("game", 5, true, 108),
+        true,
+        109,
+        3,
+        Seen::Done(5, 108),
+    ),
+    (
+        Deed::Delete("other", 109),
+        false,
+        109,
+        3,
+        Seen::Done(5, 108),
+    ),
+    (Deed::Delete("game", 110), true, 110, 3, Seen::Nothing),
+    (Deed::Touch("game", 111), false, 110, 3, Seen::Nothing),
+    (Deed::Space("game", 24, 4), true, 110, 3, Seen::Nothing),
+];
+
+#[test]
+fn entries_that_fit_are_made_and_others_refused(rt: HostRuntime) -> Result<(), Fail> {
+    let mut index = Index::new(rt.alloc(), Limits::standard());
+    assert_eq!(rt; index.limits().blobs, 2_097_152);
+    assert_eq!(rt; first_wrong(rt.alloc(), &mut index, &ROWS)?, None);
+    assert_eq!(rt; index.space_count(), 1);
+    let space = Namespace::parse("game")?;
+    assert_eq!(rt; index.space(&space), Some(SpaceRow { ttl: 24, pin: 4 }));
+    let row = BlobRow {
+        len: 4097,
+        at: 101,
+        extent: Extent {
+            start: 10,
+            units: 2,
+        },
+    };
+    // the put of 1 at the hour 100 didn't lower it
+    assert_eq!(rt; index.blob(&space, &hash_of(1)), Some(row));
+    Ok(())
+}
+
+#[test]
+fn reads_of_links_are_counted(rt: HostRuntime) -> Result<(), Fail> {
+    let mut index = Index::new(rt.alloc(), Limits::standard());
+    assert_eq!(rt; first_wrong(rt.alloc(), &mut index, &ROWS[6..8])?, None);
+    let space = Namespace::parse("game")?;
+    let read = index.count_read();
+    let links = index.links(&space, &hash_of(1), read);
+    assert_eq!(rt; links.len(), 2);
+    assert!(rt; links[0] == link_of(LinkKind::Object));
+    assert!(rt; links[1] == link_of(LinkKind::Binary));
+    let other = Namespace::parse("other")?;
+    let read = index.count_read();
+    assert_eq!(rt; index.links(&other, &hash_of(1), read).len(), 0);
+    assert_eq!(rt; index.reads(), 2);
+    Ok(())
 }
 
 fn whole_of(alloc: Global, bytes: &[u8]) -> Result<Whole, Fail> {
@@ -52,463 +385,17 @@ fn whole_of(alloc: Global, bytes: &[u8]) -> Result<Whole, Fail> {
     Ok(intake.finish())
 }
 
-fn times_of(space: Namespace, ttl: u32, pin: u32) -> Entry {
-    Entry::Space { space, ttl, pin }
-}
-
-fn upload_of(space: Namespace, blob: Stored) -> Entry {
-    Entry::Upload {
-        space,
-        blob,
-        hour: 0,
-    }
-}
-
-fn put_of(
-    alloc: Global,
-    name: RefName,
-    root: u8,
-    fresh: Option<Stored>,
-    whole: bool,
-    hour: u32,
-) -> Result<Entry, NoMemory> {
-    Ok(Entry::Put {
-        name: NameBox::new(alloc, name)?,
-        root: hash_of(root),
-        fresh,
-        whole,
-        hour,
-    })
-}
-
-// Whether the entry fits; then its change is made.
-fn apply(alloc: Global, index: &mut Index, entry: &Entry) -> Result<bool, NoMemory> {
-    if !index.fits(entry) {
-        return Ok(false);
-    }
-    index.apply(alloc, entry)?;
-    Ok(true)
-}
-
 #[test]
 fn a_check_tells_an_object_and_its_links(rt: HostRuntime) -> Result<(), Fail> {
-    let object = Checked::new(
-        rt.alloc(),
-        whole_of(rt.alloc(), b"\x02\x17\x8f\x01aabcdefghijklmnopqrst")?,
-    )?;
+    let bytes = b"\x02\x17\x8f\x01aabcdefghijklmnopqrst";
+    let object = Checked::new(rt.alloc(), whole_of(rt.alloc(), bytes)?)?;
     assert!(rt; object.is_object());
     assert_eq!(rt; object.links().len(), 1);
     assert!(rt; object.links()[0].kind == LinkKind::Binary);
     assert_eq!(rt; object.links()[0].hash, IoHash(*b"abcdefghijklmnopqrst"));
     let letter = Checked::new(rt.alloc(), whole_of(rt.alloc(), b"a")?)?;
     assert!(rt; !letter.is_object());
-    assert_eq!(rt; letter.links().len(), 0);
     assert_eq!(rt; letter.whole().bytes(), b"a".as_slice());
     assert!(rt; letter.whole().hash().text() == *b"17762fddd969a453925d65717ac3eea21320b66b");
-    Ok(())
-}
-
-#[test]
-fn an_index_is_empty_at_first(rt: HostRuntime) -> Result<(), Fail> {
-    let index = Index::new(rt.alloc(), Limits::standard());
-    assert_eq!(rt; index.limits().blobs, 2_097_152);
-    assert_eq!(rt; index.hour(), 0);
-    assert_eq!(rt; index.space_count(), 0);
-    assert_eq!(rt; index.blob_count(), 0);
-    assert_eq!(rt; index.refs().len(), 0);
-    assert_eq!(rt; index.link_count(), 0);
-    assert_eq!(rt; index.reads(), 0);
-    assert_eq!(rt; index.space(&space_of("game")?), None);
-    assert_eq!(rt; index.blob(&space_of("game")?, &hash_of(1)), None);
-    Ok(())
-}
-
-// The namespace `game`, and in it a blob of two links, at the hour 100.
-fn index_with_blob(alloc: Global) -> Result<Index, Fail> {
-    let mut index = Index::new(alloc, Limits::standard());
-    let space = space_of("game")?;
-    let entry = Entry::Space {
-        space,
-        ttl: 24,
-        pin: 4,
-    };
-    apply(alloc, &mut index, &entry)?;
-    let links = [link_to(LinkKind::Object, 2), link_to(LinkKind::Binary, 2)];
-    let entry = Entry::Upload {
-        space,
-        blob: stored_of(alloc, 1, 4097, &links)?,
-        hour: 100,
-    };
-    apply(alloc, &mut index, &entry)?;
-    Ok(index)
-}
-
-#[test]
-fn a_blob_has_its_row_and_its_links(rt: HostRuntime) -> Result<(), Fail> {
-    let mut index = index_with_blob(rt.alloc())?;
-    let space = space_of("game")?;
-    let row = BlobRow {
-        len: 4097,
-        at: 100,
-        extent: Extent {
-            start: 10,
-            units: 2,
-        },
-    };
-    assert_eq!(rt; index.space(&space), Some(SpaceRow { ttl: 24, pin: 4 }));
-    assert_eq!(rt; index.blob(&space, &hash_of(1)), Some(row));
-    assert_eq!(rt; index.hour(), 100);
-    assert_eq!(rt; index.space_count(), 1);
-    assert_eq!(rt; index.blob_count(), 1);
-    assert_eq!(rt; index.link_count(), 2);
-    let read = index.count_read();
-    let links = index.links(&space, &hash_of(1), read);
-    assert_eq!(rt; links.len(), 2);
-    assert!(rt; links[0] == link_to(LinkKind::Object, 2));
-    assert!(rt; links[1] == link_to(LinkKind::Binary, 2));
-    let other = space_of("other")?;
-    let read = index.count_read();
-    assert_eq!(rt; index.links(&other, &hash_of(1), read).len(), 0);
-    assert_eq!(rt; index.reads(), 2);
-    Ok(())
-}
-
-fn slot_of(done: Option<u8>, pending: Option<u8>, seen: u32) -> Slot {
-    let done = match done {
-        Some(number) => Some(hash_of(number)),
-        None => None,
-    };
-    let pending = match pending {
-        Some(number) => Some(hash_of(number)),
-        None => None,
-    };
-    Slot {
-        done,
-        pending,
-        seen,
-    }
-}
-
-// Whether the entry fits, and leaves the index at this hour with this slot of the reference.
-fn leaves(
-    alloc: Global,
-    index: &mut Index,
-    entry: &Entry,
-    hour: u32,
-    slot: Slot,
-) -> Result<bool, Fail> {
-    let name = name_of("game", 7)?;
-    Ok(apply(alloc, index, entry)? && index.hour() == hour && index.refs().get(&name) == Some(slot))
-}
-
-#[test]
-fn a_pending_object_waits_beside_the_finalised_one(rt: HostRuntime) -> Result<(), Fail> {
-    let mut index = index_with_blob(rt.alloc())?;
-    let whole = put_of(rt.alloc(), name_of("game", 7)?, 1, None, true, 101)?;
-    assert!(rt;
-        leaves(
-            rt.alloc(),
-            &mut index,
-            &whole,
-            101,
-            slot_of(Some(1), None, 101)
-        )?
-    );
-    let fresh = stored_of(rt.alloc(), 3, 8192, &[link_to(LinkKind::Binary, 9)])?;
-    let pending = put_of(rt.alloc(), name_of("game", 7)?, 3, Some(fresh), false, 95)?;
-    assert!(rt;
-        leaves(
-            rt.alloc(),
-            &mut index,
-            &pending,
-            101,
-            slot_of(Some(1), Some(3), 95)
-        )?
-    );
-    assert_eq!(rt; index.link_count(), 3);
-    Ok(())
-}
-
-#[test]
-fn times_of_1_to_1000000_hours_fit(rt: HostRuntime) -> Result<(), Fail> {
-    let index = index_with_blob(rt.alloc())?;
-    let space = space_of("other")?;
-    let rows = [
-        (1, 1_000_000, true),
-        (1_000_000, 1, true),
-        (0, 1, false),
-        (1, 0, false),
-        (1_000_001, 1, false),
-        (1, 1_000_001, false),
-    ];
-    for (ttl, pin, fits) in rows {
-        assert_eq!(rt; index.fits(&times_of(space, ttl, pin)), fits);
-    }
-    Ok(())
-}
-
-#[test]
-fn an_upload_fits_where_the_blob_is_absent_and_short(rt: HostRuntime) -> Result<(), Fail> {
-    let index = index_with_blob(rt.alloc())?;
-    let rows = [
-        ("game", 2, 67_108_864, true),
-        ("game", 2, 67_108_865, false),
-        ("game", 1, 1, false),
-        ("other", 2, 1, false),
-    ];
-    for (space, number, len, fits) in rows {
-        let blob = stored_of(rt.alloc(), number, len, &[])?;
-        assert_eq!(rt; index.fits(&upload_of(space_of(space)?, blob)), fits);
-    }
-    Ok(())
-}
-
-#[test]
-fn a_put_fits_with_a_present_root_or_a_fresh_one(rt: HostRuntime) -> Result<(), Fail> {
-    let index = index_with_blob(rt.alloc())?;
-    for (root, fits) in [(1, true), (2, false)] {
-        assert_eq!(rt;
-            index.fits(&put_of(rt.alloc(), name_of("game", 7)?, root, None, false, 0)?),
-            fits
-        );
-    }
-    for (root, fresh, fits) in [(2, 2, true), (2, 3, false), (1, 1, false)] {
-        let blob = stored_of(rt.alloc(), fresh, 1, &[])?;
-        assert_eq!(rt;
-            index.fits(&put_of(rt.alloc(), name_of("game", 7)?, root, Some(blob), false, 0)?),
-            fits
-        );
-    }
-    Ok(())
-}
-
-fn repin_of(space: Namespace, number: u8) -> Entry {
-    let hash = hash_of(number);
-    Entry::Repin {
-        space,
-        hash,
-        hour: 0,
-    }
-}
-
-fn finalise_of(alloc: Global, name: RefName, number: u8) -> Result<Entry, NoMemory> {
-    Ok(Entry::Finalise {
-        name: NameBox::new(alloc, name)?,
-        hash: hash_of(number),
-        hour: 0,
-    })
-}
-
-fn delete_of(alloc: Global, name: RefName) -> Result<Entry, NoMemory> {
-    let name = NameBox::new(alloc, name)?;
-    Ok(Entry::Delete { name, hour: 0 })
-}
-
-fn touch_of(alloc: Global, name: RefName) -> Result<Entry, NoMemory> {
-    let name = NameBox::new(alloc, name)?;
-    Ok(Entry::Touch { name, hour: 0 })
-}
-
-// What an entry does to what it names: a blob by number, or the reference.
-#[derive(Clone, Copy)]
-enum Naming {
-    Repin(u8),
-    Finalise(u8),
-    Delete,
-    Touch,
-}
-
-fn naming_of(alloc: Global, naming: Naming) -> Result<Entry, Fail> {
-    let name = name_of("game", 7)?;
-    Ok(match naming {
-        Naming::Repin(number) => repin_of(name.space, number),
-        Naming::Finalise(number) => finalise_of(alloc, name, number)?,
-        Naming::Delete => delete_of(alloc, name)?,
-        Naming::Touch => touch_of(alloc, name)?,
-    })
-}
-
-// The first of these that fits otherwise.
-fn first_other(
-    alloc: Global,
-    index: &Index,
-    rows: &[(Naming, bool)],
-) -> Result<Option<usize>, Fail> {
-    for (place, (naming, fits)) in rows.iter().copied().enumerate() {
-        let entry = naming_of(alloc, naming)?;
-        if index.fits(&entry) != fits {
-            return Ok(Some(place));
-        }
-    }
-    Ok(None)
-}
-
-#[test]
-fn what_an_entry_names_has_to_be_there(rt: HostRuntime) -> Result<(), Fail> {
-    let mut index = index_with_blob(rt.alloc())?;
-    let rows = [
-        (Naming::Repin(1), true),
-        (Naming::Repin(2), false),
-        (Naming::Finalise(1), false),
-        (Naming::Delete, false),
-        (Naming::Touch, false),
-    ];
-    assert_eq!(rt; first_other(rt.alloc(), &index, &rows)?, None);
-    // a reference whose object is pending can be finalised and taken away, and isn't served
-    let put = put_of(rt.alloc(), name_of("game", 7)?, 1, None, false, 0)?;
-    assert!(rt; apply(rt.alloc(), &mut index, &put)?);
-    let rows = [
-        (Naming::Finalise(1), true),
-        (Naming::Finalise(2), false),
-        (Naming::Delete, true),
-        (Naming::Touch, false),
-    ];
-    assert_eq!(rt; first_other(rt.alloc(), &index, &rows)?, None);
-    Ok(())
-}
-
-// Whether the index has what the plain program has, and no more.
-fn agrees(index: &mut Index, plain: &Plain) -> bool {
-    for blob in &plain.blobs {
-        let read = index.count_read();
-        let links = index.links(&blob.space, &blob.hash, read);
-        if links != blob.links.as_slice() || index.blob(&blob.space, &blob.hash) != Some(blob.row) {
-            return false;
-        }
-    }
-    index.hour() == plain.hour
-        && index.blob_count() == plain.blobs.len() as u64
-        && index.link_count() == plain.link_count()
-        && index.space_count() == plain.spaces.len() as u64
-        && plain
-            .spaces
-            .iter()
-            .all(|row| index.space(&row.0) == Some(row.1))
-        && index.refs().len() == plain.slots.len() as u64
-        && plain
-            .slots
-            .iter()
-            .all(|row| index.refs().get(&row.0) == Some(row.1))
-}
-
-// A fixed generator of numbers: the next is 1,664,525 times the last and 1,013,904,223, of which the upper half is taken.
-#[derive(Drop)]
-struct Draw {
-    last: u32,
-}
-
-impl Draw {
-    fn below(&mut self, count: u32) -> u32
-        ensures { result < max count 1 }
-    {
-        self.last = self
-            .last
-            .wrapping_mul(1_664_525)
-            .wrapping_add(1_013_904_223);
-        (self.last >> 16) % count.max(1)
-    }
-
-    fn hash(&mut self) -> IoHash {
-        hash_of(self.below(5) as u8)
-    }
-
-    fn space(&mut self) -> Result<Namespace, Fail> {
-        space_of(if self.below(4) == 0 { "other" } else { "game" })
-    }
-
-    fn name(&mut self, alloc: Global) -> Result<NameBox, Fail> {
-        let name = name_of(
-            if self.below(4) == 0 { "other" } else { "game" },
-            self.below(3) as u8,
-        )?;
-        Ok(NameBox::new(alloc, name)?)
-    }
-
-    fn blob(&mut self, alloc: Global, hash: IoHash) -> Result<Stored, Fail> {
-        let links = [link_to(LinkKind::Object, 1), link_to(LinkKind::Binary, 2)];
-        let count = self.below(3) as usize;
-        let len = self.below(3) as u64 * 4096;
-        Ok(Stored {
-            hash,
-            len,
-            start: self.below(100) as u64,
-            links: Rows::of_vec(Vec::from_slice(alloc, &links[..count])?),
-        })
-    }
-
-    fn entry(&mut self, alloc: Global) -> Result<Entry, Fail> {
-        let hour = self.below(50);
-        let hash = self.hash();
-        Ok(match self.below(8) {
-            0 => Entry::Space {
-                space: self.space()?,
-                ttl: self.below(3),
-                pin: 1,
-            },
-            1 => Entry::Upload {
-                space: self.space()?,
-                blob: self.blob(alloc, hash)?,
-                hour,
-            },
-            2 => Entry::Repin {
-                space: self.space()?,
-                hash,
-                hour,
-            },
-            3 => Entry::Finalise {
-                name: self.name(alloc)?,
-                hash,
-                hour,
-            },
-            4 => Entry::Delete {
-                name: self.name(alloc)?,
-                hour,
-            },
-            5 => Entry::Touch {
-                name: self.name(alloc)?,
-                hour,
-            },
-            _ => {
-                let fresh = if self.below(2) == 0 {
-                    None
-                } else {
-                    Some(self.blob(alloc, hash)?)
-                };
-                Entry::Put {
-                    name: self.name(alloc)?,
-                    root: hash,
-                    fresh,
-                    whole: self.below(2) == 0,
-                    hour,
-                }
-            }
-        })
-    }
-}
-
-// How many of so many entries fit, where the index and the plain program agree behind each.
-fn agreed(alloc: Global, count: u32) -> Result<Option<u32>, Fail> {
-    let mut draw = Draw { last: 1 };
-    let mut index = Index::new(alloc, Limits::standard());
-    let mut plain = Plain::new(alloc);
-    let mut legal: u32 = 0;
-    for _ in 0..count {
-        let entry = draw.entry(alloc)?;
-        let fits = plain.is_legal(&entry);
-        if fits {
-            plain.change(alloc, &entry)?;
-            legal = legal.wrapping_add(1);
-        }
-        if apply(alloc, &mut index, &entry)? != fits || !agrees(&mut index, &plain) {
-            return Ok(None);
-        }
-    }
-    Ok(Some(legal))
-}
-
-#[test]
-fn the_index_agrees_with_the_plain_program(rt: HostRuntime) -> Result<(), Fail> {
-    // 151 of the 400 entries are legal, as the plain program counted them
-    assert_eq!(rt; agreed(rt.alloc(), 400)?, Some(151));
     Ok(())
 }

@@ -13,10 +13,10 @@ abbrev pub with_piece : Taken → List ℕ → Taken
 with_piece intake piece = record { limit = intake.limit; bytes = intake.bytes ++ piece }
 
 -- the piece fits the limit
-abbrev pub Fits : Taken → List ℕ → Type 0
-Fits intake piece = length intake.bytes + length piece ≤ intake.limit
+abbrev pub FitsLimit : Taken → List ℕ → Type 0
+FitsLimit intake piece = length intake.bytes + length piece ≤ intake.limit
 
 -- why an intake refuses a piece: TooLarge names the limit, exactly where the piece doesn't fit it
 abbrev pub Refuses : Taken → List ℕ → IntakeFault → Type 0
 Refuses intake piece (TooLarge limit) = (limit ≡ intake.limit) × (intake.limit < length intake.bytes + length piece)
-Refuses intake piece NoMemory = Fits intake piece
+Refuses intake piece NoMemory = FitsLimit intake piece

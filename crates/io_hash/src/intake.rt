@@ -1,6 +1,6 @@
 // Bytes that arrive in pieces.
 ghost use Rattle.std.specs.Prelude.{◌≡◌, List, [], OnOk, IfErr};
-ghost use Rattle.io_hash.specs.Intakes.{Fits, Refuses, Taken, with_piece};
+ghost use Rattle.io_hash.specs.Intakes.{FitsLimit, Refuses, Taken, with_piece};
 
 use crate::whole::Whole;
 use blake3_lanes::WideHasher;
@@ -56,7 +56,7 @@ impl Intake {
     /// `TooLarge` exactly where the bytes would be more than the limit, and `NoMemory` where there is none. The intake is
     /// then as before.
     pub fn take(&mut self, bytes: &[u8]) -> Result<(), IntakeFault>
-        ensures fits { OnOk result (Fits self.old bytes.now) }
+        ensures fits { OnOk result (FitsLimit self.old bytes.now) }
         ensures taken { OnOk result (self.new ≡ with_piece self.old bytes.now) }
         ensures refused { IfErr result (λ fault. Refuses self.old bytes.now fault) }
         ensures unchanged { IfErr result (λ _. self.new ≡ self.old) }

@@ -8,7 +8,7 @@ use Rattle.std.specs.declared.cmp.Ordering.TheVariants.{Less, Equal, Greater}
 use Rattle.std.specs.Ordering.{is_eq}
 use Rattle.std.specs.Cmp.{eq_by_cmp_equiv}
 use Rattle.ddc_names.specs.declared.hash.IoHash.{IoHash}
-use Rattle.ddc_names.specs.Orders.{io_hash_cmp, io_hash_exact, io_hash_total}
+use Rattle.ddc_names.specs.Orders.{io_hash_cmp, io_hash_exact, io_hash_total, name_cmp, name_total}
 use Rattle.cb_fields.specs.declared.links.Link.{Link}
 use Rattle.cb_fields.specs.declared.links.LinkKind.{LinkKind}
 use Rattle.cb_fields.specs.declared.links.LinkKind.TheVariants.{Object, Binary}
@@ -18,7 +18,7 @@ use Rattle.ddc_model.specs.declared.rows.BlobRow.{BlobRow}
 use Rattle.ddc_model.specs.Keys.{blob_cmp, blob_exact}
 use Rattle.ddc_model.specs.State.{blob_name}
 use Rattle.ddc_model.specs.Closure.{Links, object, IsReached}
-use Rattle.needs_resolver.specs.Walking.{Met, InWork, IsReachedFrom, IsCovered, IsKnown, IsWalk, IsMet, AreMet, unmet}
+use Rattle.needs_resolver.specs.Walking.{Met, InWork, IsReachedFrom, IsCovered, IsKnown, IsWalk, IsMet, AreMet, one_unmet, unmet}
 use borrow.Author.Count.{below_more}
 
 abbrev Test : Type 0
@@ -114,6 +114,9 @@ tied_same a b t = io_hash_exact a b (tied_equal _ t)
 pub tied_itself : (h : IoHash) → is_at (io_hash_cmp h) h ≡ true
 tied_itself h = (eq_by_cmp_equiv io_hash_total).refl h
 
+tied_name : (space : List ℕ) → name_cmp space space ≡ Equal
+tied_name space = tied_equal _ ((eq_by_cmp_equiv name_total).refl space)
+
 pub with_itself : (seen seen' : Test) (h : IoHash) → is_with seen h seen' → seen' h ≡ true
 with_itself seen seen' h w = w h ∙ ap (λ b. cond b true (seen h)) (tied_itself h)
 
@@ -131,34 +134,37 @@ with_new seen seen' h w q t = split (is_at (io_hash_cmp h) q) refl (sym (w q) �
 
 -- ---- how many stored blobs aren't met
 
-one_kept : (b s t : Bool) (u' u : ℕ) → t ≡ cond b true s → u' ≤ u → cond (not t) 1 0 + u' ≤ cond (not s) 1 0 + u
-one_kept true true t u' u k r = rw k (omega arith)
-one_kept true false t u' u k r = rw k (omega arith)
-one_kept false true t u' u k r = rw k (omega arith)
-one_kept false false t u' u k r = rw k (omega arith)
+one_kept : (o : Ordering) (b s t : Bool) → t ≡ cond b true s → one_unmet o t ≤ one_unmet o s
+one_kept Less b s t k = omega arith
+one_kept Equal true true t k = rw k (omega arith)
+one_kept Equal true false t k = rw k (omega arith)
+one_kept Equal false true t k = rw k (omega arith)
+one_kept Equal false false t k = rw k (omega arith)
+one_kept Greater b s t k = omega arith
 
-unmet_kept : (es : List (BlobName × Blob)) (h : IoHash) (seen seen' : Test) → is_with seen h seen' → unmet seen' es ≤ unmet seen es
-unmet_kept [] h seen seen' w = omega arith
-unmet_kept (e ∷ es) h seen seen' w = one_kept (is_at (io_hash_cmp h) e.0.hash) (seen e.0.hash) (seen' e.0.hash) _ _ (w e.0.hash) (unmet_kept es h seen seen' w)
+unmet_kept : (es : List (BlobName × Blob)) (space : List ℕ) (h : IoHash) (seen seen' : Test) → is_with seen h seen' → unmet space seen' es ≤ unmet space seen es
+unmet_kept [] space h seen seen' w = omega arith
+unmet_kept (e ∷ es) space h seen seen' w =
+    let here : one_unmet (name_cmp space e.0.space) (seen' e.0.hash) ≤ one_unmet (name_cmp space e.0.space) (seen e.0.hash) = one_kept (name_cmp space e.0.space) (is_at (io_hash_cmp h) e.0.hash) (seen e.0.hash) (seen' e.0.hash) (w e.0.hash) in
+    let rest : unmet space seen' es ≤ unmet space seen es = unmet_kept es space h seen seen' w in
+    omega arith
 
-here_less : (t u : Bool) (n m : ℕ) → t ≡ true → u ≡ false → n ≤ m → (cond (not t) 1 0 + n) + 1 ≤ cond (not u) 1 0 + m
-here_less t u n m et eu l = rw et (rw eu (omega arith))
+here_less : (o : Ordering) (t u : Bool) (n m : ℕ) → o ≡ Equal → t ≡ true → u ≡ false → n ≤ m → (one_unmet o t + n) + 1 ≤ one_unmet o u + m
+here_less o t u n m eo et eu l = rw eo (rw et (rw eu (omega arith)))
 
-one_less : (b s t : Bool) (u' u : ℕ) → t ≡ cond b true s → u' + 1 ≤ u → (cond (not t) 1 0 + u') + 1 ≤ cond (not s) 1 0 + u
-one_less true true t u' u k r = rw k (omega arith)
-one_less true false t u' u k r = rw k (omega arith)
-one_less false true t u' u k r = rw k (omega arith)
-one_less false false t u' u k r = rw k (omega arith)
+one_less : (x y n m : ℕ) → x ≤ y → n + 1 ≤ m → (x + n) + 1 ≤ y + m
+one_less x y n m l r = omega arith
 
 -- a stored blob of a hash that is met for the first time
-pub unmet_less : (es : List (BlobName × Blob)) (space : List ℕ) (h : IoHash) (seen seen' : Test) → is_with seen h seen' → seen h ≡ false → is_some (find blob_cmp (blob_name space h) es) ≡ true → unmet seen' es + 1 ≤ unmet seen es
+pub unmet_less : (es : List (BlobName × Blob)) (space : List ℕ) (h : IoHash) (seen seen' : Test) → is_with seen h seen' → seen h ≡ false → is_some (find blob_cmp (blob_name space h) es) ≡ true → unmet space seen' es + 1 ≤ unmet space seen es
 unmet_less [] space h seen seen' w new there = absurd (cc)
 unmet_less (e ∷ es) space h seen seen' w new there = split (is_at (blob_cmp (blob_name space h)) e.0) refl (unmet_less es space h seen seen' w new) where
-  split : (b : Bool) → is_at (blob_cmp (blob_name space h)) e.0 ≡ b → (is_some (find blob_cmp (blob_name space h) es) ≡ true → unmet seen' es + 1 ≤ unmet seen es) → unmet seen' (e ∷ es) + 1 ≤ unmet seen (e ∷ es)
+  split : (b : Bool) → is_at (blob_cmp (blob_name space h)) e.0 ≡ b → (is_some (find blob_cmp (blob_name space h) es) ≡ true → unmet space seen' es + 1 ≤ unmet space seen es) → unmet space seen' (e ∷ es) + 1 ≤ unmet space seen (e ∷ es)
   split true t rest =
-      let hash : h ≡ e.0.hash = ap (λ (n : BlobName). n.hash) (blob_exact (blob_name space h) e.0 (tied_equal _ t)) in
-      here_less (seen' e.0.hash) (seen e.0.hash) _ _ (subst (λ (g : IoHash). seen' g ≡ true) hash (with_itself seen seen' h w)) (subst (λ (g : IoHash). seen g ≡ false) hash new) (unmet_kept es h seen seen' w)
-  split false f rest = one_less (is_at (io_hash_cmp h) e.0.hash) (seen e.0.hash) (seen' e.0.hash) _ _ (w e.0.hash)
+      let name : blob_name space h ≡ e.0 = blob_exact (blob_name space h) e.0 (tied_equal _ t) in
+      let hash : h ≡ e.0.hash = ap (λ (n : BlobName). n.hash) name in
+      here_less (name_cmp space e.0.space) (seen' e.0.hash) (seen e.0.hash) _ _ (subst (λ (n : BlobName). name_cmp space n.space ≡ Equal) name (tied_name space)) (subst (λ (g : IoHash). seen' g ≡ true) hash (with_itself seen seen' h w)) (subst (λ (g : IoHash). seen g ≡ false) hash new) (unmet_kept es space h seen seen' w)
+  split false f rest = one_less _ _ _ _ (one_kept (name_cmp space e.0.space) (is_at (io_hash_cmp h) e.0.hash) (seen e.0.hash) (seen' e.0.hash) (w e.0.hash))
       (rest (subst (λ (b : Bool). is_some (cond b (Some e.1) (find blob_cmp (blob_name space h) es)) ≡ true) f there))
 
 -- ---- what a row tells of the links beside it

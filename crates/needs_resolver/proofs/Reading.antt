@@ -8,15 +8,17 @@ use Rattle.std.specs.List.Sorted.{IsStrictlySortedBy}
 use Rattle.std.specs.BTreeMap.{is_at}
 use Rattle.std.specs.Option.{unwrap_or}
 use Rattle.ddc_names.specs.declared.hash.IoHash.{IoHash}
-use Rattle.ddc_names.specs.Orders.{io_hash_cmp, io_hash_total}
+use Rattle.std.specs.declared.cmp.Ordering.{Ordering}
+use Rattle.std.specs.declared.cmp.Ordering.TheVariants.{Less, Equal, Greater}
+use Rattle.ddc_names.specs.Orders.{io_hash_cmp, io_hash_total, name_cmp}
 use Rattle.cb_fields.specs.declared.links.Link.{Link}
 use Rattle.cb_fields.specs.declared.links.LinkKind.{LinkKind}
 use Rattle.cb_fields.specs.declared.links.LinkKind.TheVariants.{Object, Binary}
 use Rattle.ddc_model.specs.declared.rows.Blob.{Blob}
 use Rattle.ddc_model.specs.declared.rows.BlobName.{BlobName}
 use Rattle.ddc_model.specs.State.{State}
-use Rattle.ddc_model.specs.Closure.{Links, with_links, object, LeadsTo, Walk, IsMissing, IsWhole, has_hash, AreNeeds}
-use Rattle.needs_resolver.specs.Walking.{Met, InWork, IsReachedFrom, IsMissingFrom, IsCovered, IsRead, IsKnown, IsWalk, IsMet, AreMet, IsObjectRead, AreRead, IsIdle, with_root, unmet, most_reads}
+use Rattle.ddc_model.specs.Closure.{Links, with_links, object, LeadsTo, LeadsToIn, IsMissing, IsWhole, has_hash, AreNeeds}
+use Rattle.needs_resolver.specs.Walking.{Met, InWork, IsReachedFrom, IsMissingFrom, IsCovered, AreLinksCovered, IsKnown, IsWalk, IsMet, AreMet, IsObjectRead, AreRead, IsIdle, or_root, one_unmet, unmet, most_reads}
 use Rattle.needs_resolver.proofs.Meeting.{covered_kept, in_pop, in_push, tied_itself, tied_same}
 
 abbrev Test : Type 0
@@ -32,13 +34,13 @@ is_none : {X : Type 0} (o : Option X) → is_some o ≡ true → o ≡ None → 
 is_none o t e = let f : is_some o ≡ false = ap is_some e in cc
 
 -- the held object's links are all covered, so it is held no longer
-let_go : (base links : Links) (roots : Test) (held : IoHash) (seen absent : Test) (ahead : List IoHash) → IsRead base links seen absent held → IsWalk base links roots seen absent (held ∷ ahead) → IsWalk base links roots seen absent ahead
+let_go : (base links : Links) (roots : Test) (held : IoHash) (seen absent : Test) (ahead : List IoHash) → AreLinksCovered base links seen absent held → IsWalk base links roots seen absent (held ∷ ahead) → IsWalk base links roots seen absent ahead
 let_go base links roots held seen absent ahead done walk = record {
   seen_reached = walk.seen_reached;
   absent_missing = walk.absent_missing;
   ahead_seen = λ h t. walk.ahead_seen h (inr t);
   read = λ h t. elim (walk.read h t) [
-    | inl y ↦ elim y [ inl z ↦ inr (subst (IsRead base links seen absent) z done) | inr z ↦ inl z ]
+    | inl y ↦ elim y [ inl z ↦ inr (subst (AreLinksCovered base links seen absent) z done) | inr z ↦ inl z ]
     | inr r ↦ inr r
   ];
 }
@@ -149,16 +151,16 @@ module _ (base : Links) (root : IoHash) (old new : Met) (idle : IsIdle base old)
     unread = λ h i. refl;
   }
 
-  is_root : with_root old.seen root root ≡ true
+  is_root : or_root old.seen root root ≡ true
   is_root = ap (λ (b : Bool). cond b true (old.seen root)) (tied_itself root)
 
-  was_met : (h : IoHash) → old.seen h ≡ true → with_root old.seen root h ≡ true
+  was_met : (h : IoHash) → old.seen h ≡ true → or_root old.seen root h ≡ true
   was_met h t = ap (λ (b : Bool). cond (is_at (io_hash_cmp root) h) true b) t ∙ either (is_at (io_hash_cmp root) h) where
     either : (b : Bool) → cond b true true ≡ true
     either true = refl
     either false = refl
 
-  pub begins_walk : IsWalk base base (with_root old.seen root) new.seen new.absent new.work
+  pub begins_walk : IsWalk base base (or_root old.seen root) new.seen new.absent new.work
   begins_walk = record {
     seen_reached = λ h t. elim (met.seen_new h t) [ inl x ↦ (h, was_met h x, (0, refl)) | inr p ↦ (root, is_root, (0, sym p.0)) ];
     absent_missing = λ h t. elim (met.absent_new h t) [
@@ -209,7 +211,7 @@ module _ (base : Links) (root : IoHash) (fresh : List Link) (old : Met) (only : 
 
 module _ (base links : Links) (roots : Test) (root : IoHash) (end : Met) (known : IsKnown base links end.seen []) (walk : IsWalk base links roots end.seen end.absent []) (start : IsCovered base end.seen end.absent (object root)) where
   -- each reached node is covered
-  all_covered : (n : ℕ) (node : Link) → Walk links (object root) node n → IsCovered base end.seen end.absent node
+  all_covered : (n : ℕ) (node : Link) → LeadsToIn links (object root) node n → IsCovered base end.seen end.absent node
   all_covered zero node w = subst (IsCovered base end.seen end.absent) w start
   all_covered (suc n) node w =
       let before : Link = w.0 in
@@ -279,7 +281,7 @@ met_whole base met root idle t h missing =
     absurd (cc)
 
 -- so what is missing now is missing of the new root
-pub from_new : (base : Links) (root : IoHash) (old : Met) → IsIdle base old → (h : IoHash) → IsMissingFrom base (with_root old.seen root) h → IsMissing base root h
+pub from_new : (base : Links) (root : IoHash) (old : Met) → IsIdle base old → (h : IoHash) → IsMissingFrom base (or_root old.seen root) h → IsMissing base root h
 from_new base root old idle h m = split (is_at (io_hash_cmp root) m.0) refl m.1 where
   split : (b : Bool) → is_at (io_hash_cmp root) m.0 ≡ b → cond b true (old.seen m.0) ≡ true → IsMissing base root h
   split true t k = subst (λ (r : IoHash). IsMissing base r h) (sym (tied_same root m.0 t)) m.2
@@ -290,8 +292,8 @@ module _ (base : Links) (root : IoHash) (old begun ended : Met) (idle : IsIdle b
   end_known : IsKnown base base ended.seen []
   end_known = subst (IsKnown base base ended.seen) done (read.known base (begins_known base root old begun idle met))
 
-  end_walk : IsWalk base base (with_root old.seen root) ended.seen ended.absent []
-  end_walk = subst (IsWalk base base (with_root old.seen root) ended.seen ended.absent) done (read.kept base (with_root old.seen root) (begins_known base root old begun idle met) (begins_walk base root old begun idle met))
+  end_walk : IsWalk base base (or_root old.seen root) ended.seen ended.absent []
+  end_walk = subst (IsWalk base base (or_root old.seen root) ended.seen ended.absent) done (read.kept base (or_root old.seen root) (begins_known base root old begun idle met) (begins_walk base root old begun idle met))
 
   -- where an absent hash was met, the root lacks it
   pub lacks_it : (h : IoHash) → ended.absent h ≡ true → IsWhole base root → ⊥
@@ -300,7 +302,7 @@ module _ (base : Links) (root : IoHash) (old begun ended : Met) (idle : IsIdle b
   -- where none was met, the root's closure is whole
   pub whole_then : ((h : IoHash) → ended.absent h ≡ false) → IsWhole base root
   whole_then none h missing =
-      let noted : ended.absent h ≡ true = missing_noted base base (with_root old.seen root) root ended end_known end_walk (read.still (object root) met.covered) h missing in
+      let noted : ended.absent h ≡ true = missing_noted base base (or_root old.seen root) root ended end_known end_walk (read.still (object root) met.covered) h missing in
       let clear : ended.absent h ≡ false = none h in
       absurd (cc)
 
@@ -314,20 +316,26 @@ module _ (base : Links) (root : IoHash) (old begun ended : Met) (idle : IsIdle b
   }
 
 -- how many objects a walk reads that has none to read yet
-most_unmet : (seen : Test) (es : List (BlobName × Blob)) → unmet seen es ≤ length es
-most_unmet seen [] = omega arith
-most_unmet seen (e ∷ es) = one (seen e.0.hash) _ _ (most_unmet seen es) where
-  one : (b : Bool) (n m : ℕ) → n ≤ m → cond (not b) 1 0 + n ≤ suc m
-  one true n m l = omega arith
-  one false n m l = omega arith
+pub at_most_one : (o : Ordering) (b : Bool) → one_unmet o b ≤ 1
+at_most_one Less b = omega arith
+at_most_one Equal true = omega arith
+at_most_one Equal false = omega arith
+at_most_one Greater b = omega arith
 
-most_at_first : (state : State) (met : Met) → met.work ≡ [] → most_reads state met ≤ len state.blobs
-most_at_first state met none =
+most_unmet : (space : List ℕ) (seen : Test) (es : List (BlobName × Blob)) → unmet space seen es ≤ length es
+most_unmet space seen [] = omega arith
+most_unmet space seen (e ∷ es) =
+    let here : one_unmet (name_cmp space e.0.space) (seen e.0.hash) ≤ 1 = at_most_one (name_cmp space e.0.space) (seen e.0.hash) in
+    let rest : unmet space seen es ≤ length es = most_unmet space seen es in
+    omega arith
+
+pub most_at_first : (state : State) (space : List ℕ) (met : Met) → met.work ≡ [] → most_reads state space met ≤ len state.blobs
+most_at_first state space met none =
     let unread : length met.work ≡ 0 = ap (λ (xs : List IoHash). length xs) none in
-    let most : unmet met.seen (entries state.blobs) ≤ length (entries state.blobs) = most_unmet met.seen (entries state.blobs) in
+    let most : unmet space met.seen (entries state.blobs) ≤ length (entries state.blobs) = most_unmet space met.seen (entries state.blobs) in
     let blobs : len state.blobs ≡ length (entries state.blobs) = len-entries state.blobs in
     omega arith
 
 -- how many objects are read from the beginning of a walk on
-pub reads_at_most : (state : State) (old begun : Met) (before after : ℕ) → old.work ≡ [] → most_reads state begun ≤ most_reads state old → after ≤ before + most_reads state begun → after ≤ before + len state.blobs
-reads_at_most state old begun before after none less counted = let first : most_reads state old ≤ len state.blobs = most_at_first state old none in omega arith
+pub reads_at_most : (state : State) (space : List ℕ) (old begun : Met) (before after : ℕ) → old.work ≡ [] → most_reads state space begun ≤ most_reads state space old → after ≤ before + most_reads state space begun → after ≤ before + len state.blobs
+reads_at_most state space old begun before after none less counted = let first : most_reads state space old ≤ len state.blobs = most_at_first state space old none in omega arith

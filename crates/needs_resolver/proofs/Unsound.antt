@@ -2,23 +2,25 @@
 use Rattle.std.specs.Prelude.{◌≡◌, ℕ, ◌+◌, ◌≤◌, ◌↔◌, Bool, true, false, ◌||◌, not, cond, IsTrue, List, [], ◌∷◌, Option, None, Some, length, refl}
 use Rattle.std.proofs.Common.{ap, sym, ◌∙◌, subst, arith}
 use Rattle.std.specs.List.{filter}
-use Rattle.std.specs.FinMap.{get, find, entries, get-entries}
+use Rattle.std.specs.FinMap.{get, len, find, entries, get-entries}
 use Rattle.std.specs.declared.cmp.Ordering.{Ordering}
 use Rattle.std.specs.declared.cmp.Ordering.TheVariants.{Less, Equal, Greater}
-use Rattle.std.specs.Ordering.{is_eq, is_lt, eq_by_cmp, ordering_reverse}
-use Rattle.ddc_names.specs.Orders.{name_cmp, name_exact, ref_name_cmp, ref_name_total, ref_name_exact}
+use Rattle.std.specs.Ordering.{is_eq, is_lt, eq_by_cmp, ordering_reverse, ordering_then}
+use Rattle.ddc_names.specs.Orders.{name_cmp, name_exact, name_total, ref_name_cmp, ref_name_total, ref_name_exact}
 use Rattle.ddc_names.specs.declared.hash.IoHash.{IoHash}
 use Rattle.ddc_names.specs.declared.reference.RefName.{RefName}
 use Rattle.ref_store.specs.declared.slot.Slot.{Slot}
 use Rattle.ref_store.specs.Slots.{Slots}
 use Rattle.ref_store.specs.Nexts.{is_behind, IsNext, Next}
+use Rattle.ddc_model.specs.declared.rows.Blob.{Blob}
+use Rattle.ddc_model.specs.declared.rows.BlobName.{BlobName}
 use Rattle.ddc_model.specs.State.{State}
 use Rattle.ddc_model.specs.Closure.{Links, links_in, object, IsWhole, has_hash}
 use Rattle.ddc_model.specs.Sound.{AreWhole, IsFirstUnsound}
-use Rattle.needs_resolver.specs.Walking.{Met, IsIdle, IsMet, AreRead}
-use Rattle.needs_resolver.specs.Unsound.{IsWholeAt, Lacks, AreWholeUpTo, IsIdleAfter, count_behind}
+use Rattle.needs_resolver.specs.Walking.{Met, IsIdle, IsMet, AreRead, one_unmet, unmet, most_reads}
+use Rattle.needs_resolver.specs.Unsound.{IsWholeAt, Lacks, AreWholeUpTo, IsIdleAfter, reads_after, count_behind}
 use Rattle.needs_resolver.proofs.Meeting.{tied_itself}
-use Rattle.needs_resolver.proofs.Reading.{lacks_it, whole_then, idle_then}
+use Rattle.needs_resolver.proofs.Reading.{at_most_one, most_at_first, lacks_it, whole_then, idle_then}
 
 -- ---- what is known of the references that were looked at
 
@@ -149,3 +151,53 @@ module _ (s : State) (name : RefName) (slot : Slot) (root : IoHash) (old begun e
 
 pub same_space : (s : State) (last : RefName) (space : List ℕ) (met : Met) → name_cmp last.space space ≡ Equal → IsIdleAfter s (Some last) met → IsIdle (links_in s space) met
 same_space s last space met e idle = subst (λ (t : List ℕ). IsIdle (links_in s t) met) (name_exact last.space space e) idle
+
+-- ---- how many objects are read
+
+abbrev Test : Type 0
+Test = IoHash → Bool
+
+space_before : (a b : Ordering) → ordering_then a b ≡ Less → (a ≡ Equal → ⊥) → a ≡ Less
+space_before Less b l other = refl
+space_before Equal b l other = absurd (other refl)
+space_before Greater b l other = absurd (cc)
+
+-- a blob of a namespace, or of one after it, stands after the namespaces before
+one_later : (before space : List ℕ) (seen fresh : Test) (name : BlobName) (o : Ordering) → name_cmp before space ≡ Less → name_cmp space name.space ≡ o → one_unmet o (fresh name.hash) ≤ one_unmet (name_cmp before name.space) (seen name.hash)
+one_later before space seen fresh name Less l e = subst (λ (o : Ordering). 1 ≤ one_unmet o (seen name.hash)) (sym (name_total.trans before space name.space l e)) (omega arith)
+one_later before space seen fresh name Equal l e =
+    subst (λ (o : Ordering). one_unmet Equal (fresh name.hash) ≤ one_unmet o (seen name.hash)) (sym (subst (λ (t : List ℕ). name_cmp before t ≡ Less) (name_exact space name.space e) l)) (at_most_one Equal (fresh name.hash))
+one_later before space seen fresh name Greater l e = omega arith
+
+unmet_later : (before space : List ℕ) (seen fresh : Test) (es : List (BlobName × Blob)) → name_cmp before space ≡ Less → unmet space fresh es ≤ unmet before seen es
+unmet_later before space seen fresh [] l = omega arith
+unmet_later before space seen fresh (e ∷ es) l =
+    let here : one_unmet (name_cmp space e.0.space) (fresh e.0.hash) ≤ one_unmet (name_cmp before e.0.space) (seen e.0.hash) = one_later before space seen fresh e.0 (name_cmp space e.0.space) l refl in
+    let rest : unmet space fresh es ≤ unmet before seen es = unmet_later before space seen fresh es l in
+    omega arith
+
+-- a walk that begins in a later namespace
+pub later_space : (s : State) (before name : RefName) (old new : Met) → is_behind (Some before) name ≡ true → (name_cmp before.space name.space ≡ Equal → ⊥) → new.work ≡ [] → most_reads s name.space new ≤ most_reads s before.space old
+later_space s before name old new behind other none =
+    let unread : length new.work ≡ 0 = ap (λ (xs : List IoHash). length xs) none in
+    let less : unmet name.space new.seen (entries s.blobs) ≤ unmet before.space old.seen (entries s.blobs) = unmet_later before.space name.space old.seen new.seen (entries s.blobs) (space_before _ _ (is_less _ behind) other) in
+    omega arith
+
+-- the walk goes on in its namespace
+pub same_left : (s : State) (last : RefName) (space : List ℕ) (met : Met) → name_cmp last.space space ≡ Equal → most_reads s space met ≤ most_reads s last.space met
+same_left s last space met e = subst (λ (t : List ℕ). most_reads s t met ≤ most_reads s last.space met) (name_exact last.space space e) (omega arith)
+
+-- a walk that has met nothing absent can begin at any reference
+pub first_left : (s : State) (space : List ℕ) (met : Met) → met.work ≡ [] → most_reads s space met ≤ len s.blobs
+first_left = most_at_first
+
+module _ (s at : State) (last : Option RefName) (name : RefName) (old begun : Met) (start before after : ℕ) (same : at ≡ s) (counted : before + reads_after s last old ≤ start + len s.blobs)
+    (left : most_reads s name.space begun ≤ reads_after s last old) where
+  -- where a reference is looked at
+  pub counted_then : after ≤ before + most_reads at name.space begun → after ≤ start + len s.blobs
+  counted_then more = let here : after ≤ before + most_reads s name.space begun = subst (λ (t : State). after ≤ before + most_reads t name.space begun) same more in omega arith
+
+  pub counted_after : (ended : Met) → after + most_reads at name.space ended ≤ before + most_reads at name.space begun → after + most_reads s name.space ended ≤ start + len s.blobs
+  counted_after ended more =
+      let here : after + most_reads s name.space ended ≤ before + most_reads s name.space begun = subst (λ (t : State). after + most_reads t name.space ended ≤ before + most_reads t name.space begun) same more in
+      omega arith

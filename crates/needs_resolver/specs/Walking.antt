@@ -4,14 +4,16 @@ use Rattle.std.specs.List.{Contains}
 use Rattle.std.specs.FinMap.{entries}
 use Rattle.std.specs.BTreeSet.{contains}
 use Rattle.std.specs.BTreeMap.{is_at}
-use Rattle.ddc_names.specs.Orders.{io_hash_cmp}
+use Rattle.std.specs.declared.cmp.Ordering.{Ordering}
+use Rattle.std.specs.declared.cmp.Ordering.TheVariants.{Less, Equal, Greater}
+use Rattle.ddc_names.specs.Orders.{io_hash_cmp, name_cmp}
 use Rattle.ddc_names.specs.declared.hash.IoHash.{IoHash}
 use Rattle.cb_fields.specs.declared.links.Link.{Link}
 use Rattle.cb_fields.specs.declared.links.LinkKind.TheVariants.{Binary}
 use Rattle.ddc_model.specs.declared.rows.Blob.{Blob}
 use Rattle.ddc_model.specs.declared.rows.BlobName.{BlobName}
 use Rattle.ddc_model.specs.State.{State}
-use Rattle.needs_resolver.specs.declared.walk.Walk.{Walk}
+use Rattle.needs_resolver.specs.declared.closure_walk.ClosureWalk.{ClosureWalk}
 use Rattle.ddc_model.specs.Closure.{Links, object, IsReached, IsMissing}
 
 -- the objects that were met, the absent hashes that were met, and the objects whose links are still to be read
@@ -21,7 +23,7 @@ pub record Met : Type 0 where
   pub work : List IoHash
 
 -- what a walk has met
-abbrev pub met_of : Walk → Met
+abbrev pub met_of : ClosureWalk → Met
 met_of walk = record { seen = contains io_hash_cmp walk.seen; absent = contains io_hash_cmp walk.absent; work = walk.work.items }
 
 -- the hash stands in the list
@@ -42,8 +44,8 @@ abbrev pub IsCovered : Links → (IoHash → Bool) → (IoHash → Bool) → Lin
 IsCovered base seen absent node = (absent node.hash ≡ true) ⊎ ((seen node.hash ≡ true) ⊎ ((node.kind ≡ Binary) × (is_some (base node.hash) ≡ true)))
 
 -- all links of an object are covered
-abbrev pub IsRead : Links → Links → (IoHash → Bool) → (IoHash → Bool) → IoHash → Type 0
-IsRead base links seen absent h = (found : List Link) → links h ≡ Some found → (node : Link) → Contains found node → IsCovered base seen absent node
+abbrev pub AreLinksCovered : Links → Links → (IoHash → Bool) → (IoHash → Bool) → IoHash → Type 0
+AreLinksCovered base links seen absent h = (found : List Link) → links h ≡ Some found → (node : Link) → Contains found node → IsCovered base seen absent node
 
 -- the links that are walked are the stored ones, but of objects that were met
 pub record IsKnown (base links : Links) (seen : IoHash → Bool) (work : List IoHash) : Type 0 where
@@ -56,7 +58,7 @@ pub record IsWalk (base links : Links) (roots : IoHash → Bool) (seen absent : 
   pub seen_reached : (h : IoHash) → seen h ≡ true → IsReachedFrom links roots (object h)
   pub absent_missing : (h : IoHash) → absent h ≡ true → IsMissingFrom links roots h
   pub ahead_seen : (h : IoHash) → InWork ahead h → seen h ≡ true
-  pub read : (h : IoHash) → seen h ≡ true → InWork ahead h ⊎ IsRead base links seen absent h
+  pub read : (h : IoHash) → seen h ≡ true → InWork ahead h ⊎ AreLinksCovered base links seen absent h
 
 -- what meeting one node changes
 pub record IsMet (base : Links) (node : Link) (old new : Met) : Type 0 where
@@ -92,17 +94,23 @@ pub record IsIdle (base : Links) (met : Met) : Type 0 where
   pub none_ahead : met.work ≡ []
   pub none_absent : (h : IoHash) → met.absent h ≡ false
   pub present : (h : IoHash) → met.seen h ≡ true → is_some (base h) ≡ true
-  pub read : (h : IoHash) → met.seen h ≡ true → IsRead base base met.seen met.absent h
+  pub read : (h : IoHash) → met.seen h ≡ true → AreLinksCovered base base met.seen met.absent h
 
 -- the roots of a walk that goes on: what it has met, and one root more
-abbrev pub with_root : (IoHash → Bool) → IoHash → IoHash → Bool
-with_root seen root h = cond (is_at (io_hash_cmp root) h) true (seen h)
+abbrev pub or_root : (IoHash → Bool) → IoHash → IoHash → Bool
+or_root seen root h = cond (is_at (io_hash_cmp root) h) true (seen h)
 
--- how many blobs have a hash that isn't met
-abbrev pub unmet : (IoHash → Bool) → List (BlobName × Blob) → ℕ
-unmet seen [] = 0
-unmet seen (e ∷ es) = cond (not (seen e.0.hash)) 1 0 + unmet seen es
+-- one for a blob that can still be met: it stands in this namespace and isn't met, or in a namespace after it
+abbrev pub one_unmet : Ordering → Bool → ℕ
+one_unmet Less met = 1
+one_unmet Equal met = cond (not met) 1 0
+one_unmet Greater met = 0
 
--- how many objects can still be read
-abbrev pub most_reads : State → Met → ℕ
-most_reads state met = unmet met.seen (entries state.blobs) + length met.work
+-- how many blobs of a namespace have a hash that isn't met, and how many blobs the namespaces after it have
+abbrev pub unmet : List ℕ → (IoHash → Bool) → List (BlobName × Blob) → ℕ
+unmet space seen [] = 0
+unmet space seen (e ∷ es) = one_unmet (name_cmp space e.0.space) (seen e.0.hash) + unmet space seen es
+
+-- how many objects can still be read, by a walk of this namespace and those of the namespaces after it
+abbrev pub most_reads : State → List ℕ → Met → ℕ
+most_reads state space met = unmet space met.seen (entries state.blobs) + length met.work

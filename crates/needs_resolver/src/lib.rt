@@ -6,13 +6,11 @@
 //! the depth and whatever parts are shared.
 #![tactic(auto)]
 
+mod closure_walk;
 mod missing;
-#[cfg(test)]
-mod plain;
 mod sound;
 #[cfg(test)]
 mod tests;
-mod walk;
 
 pub use missing::{needs, needs_with};
 pub use sound::first_unsound;

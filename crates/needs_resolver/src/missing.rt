@@ -4,7 +4,7 @@ ghost use Rattle.std.specs.Prelude.{◌≡◌, ◌+◌, ◌≤◌, IfOk};
 ghost use Rattle.std.specs.FinMap as map;
 ghost use Rattle.ddc_model.specs.Closure.{AreNeeds, links_in, with_links};
 
-use crate::walk::Walk;
+use crate::closure_walk::ClosureWalk;
 use cb_fields::{Link, LinkKind};
 use ddc_names::{IoHash, Namespace, NoMemory, Rows};
 use ddc_state::Index;
@@ -26,7 +26,7 @@ pub fn needs(
     ensures needs { IfOk result (λ needs. AreNeeds (links_in index.old.state space.now) root needs) }
     ensures each_blob_is_read_once_at_most { index.new.reads ≤ index.old.reads + map.len index.old.state.blobs }
 {
-    let mut walk = Walk::new(alloc);
+    let mut walk = ClosureWalk::new(alloc);
     let first = Link {
         kind: LinkKind::Object,
         hash: root,
@@ -54,7 +54,7 @@ pub fn needs_with(
     ensures needs { IfOk result (λ needs. AreNeeds (with_links (links_in index.old.state space.now) root fresh.now) root needs) }
     ensures each_blob_is_read_once_at_most { index.new.reads ≤ index.old.reads + map.len index.old.state.blobs }
 {
-    let mut walk = Walk::with_root(alloc, root)?;
+    let mut walk = ClosureWalk::with_root(alloc, root)?;
     walk.meet_all(index, space, fresh)?;
     walk.read_all(index, space)?;
     let needs = walk.absent(alloc)?;

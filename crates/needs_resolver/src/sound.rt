@@ -3,14 +3,16 @@
 //! One walk goes on from one reference of a namespace to the next, so that the links of an object are read once,
 //! whatever is shared. Another namespace has a walk of its own.
 
-ghost use Rattle.std.specs.Prelude.{◌≡◌, false, IfOk};
+ghost use Rattle.std.specs.Prelude.{◌≡◌, ◌+◌, ◌≤◌, false, true, IfOk, OnOk};
+ghost use Rattle.std.specs.FinMap as map;
+ghost use Rattle.ref_store.specs.Nexts.{is_behind};
 ghost use Rattle.ddc_model.specs.State.{State};
 ghost use Rattle.ddc_model.specs.Closure.{links_in};
 ghost use Rattle.ddc_model.specs.Sound.{FirstUnsound};
-ghost use Rattle.needs_resolver.specs.Walking.{IsIdle, met_of};
-ghost use Rattle.needs_resolver.specs.Unsound.{Lacks, IsIdleAfter};
+ghost use Rattle.needs_resolver.specs.Walking.{IsIdle, met_of, most_reads};
+ghost use Rattle.needs_resolver.specs.Unsound.{Lacks, IsIdleAfter, reads_after};
 
-use crate::walk::Walk;
+use crate::closure_walk::ClosureWalk;
 use cb_fields::{Link, LinkKind};
 use ddc_names::{NoMemory, RefName};
 use ddc_state::Index;
@@ -26,8 +28,9 @@ use std::cmp::Ordering;
 pub fn first_unsound(alloc: Global, index: &mut Index) -> Result<Option<RefName>, NoMemory>
     ensures same { index.new.state ≡ index.old.state }
     ensures found { IfOk result (λ found. FirstUnsound index.old.state found) }
+    ensures each_blob_is_read_once_at_most { index.new.reads ≤ index.old.reads + map.len index.old.state.blobs }
 {
-    let mut walk = Walk::new(alloc);
+    let mut walk = ClosureWalk::new(alloc);
     let mut last: Option<RefName> = None;
     while let Some((name, slot)) = index.refs().next(last.as_ref()) {
         go_on(alloc, &mut walk, last, &name);
@@ -40,21 +43,29 @@ pub fn first_unsound(alloc: Global, index: &mut Index) -> Result<Option<RefName>
 }
 
 // Begins the walk anew where the next reference is of another namespace.
-fn go_on(alloc: Global, walk: &mut Walk, last: Option<RefName>, name: &RefName)
-    ensures { (s : State) → IsIdleAfter s last (met_of walk.old) → IsIdle (links_in s name.now.space) (met_of walk.new) }
+fn go_on(alloc: Global, walk: &mut ClosureWalk, last: Option<RefName>, name: &RefName)
+    ensures idle { (s : State) → IsIdleAfter s last (met_of walk.old) → IsIdle (links_in s name.now.space) (met_of walk.new) }
+    ensures left { (s : State) → IsIdleAfter s last (met_of walk.old) → is_behind last name.now ≡ true → most_reads s name.now.space (met_of walk.new) ≤ reads_after s last (met_of walk.old) }
 {
     if let Some(before) = last {
         match before.space.cmp(&name.space) {
             Ordering::Equal => {}
-            _ => *walk = Walk::new(alloc),
+            _ => *walk = ClosureWalk::new(alloc),
         }
     }
 }
 
 // Whether a reference is finalised and a blob of its closure isn't there. Where none is absent, the walk can go on.
-fn lacks(walk: &mut Walk, index: &mut Index, name: &RefName, slot: &Slot) -> Result<bool, NoMemory>
+fn lacks(
+    walk: &mut ClosureWalk,
+    index: &mut Index,
+    name: &RefName,
+    slot: &Slot,
+) -> Result<bool, NoMemory>
     requires { IsIdle (links_in index.old.state name.now.space) (met_of walk.old) }
     ensures same { index.new.state ≡ index.old.state }
+    ensures counted { index.new.reads ≤ index.old.reads + most_reads index.old.state name.now.space (met_of walk.old) }
+    ensures left { OnOk result (index.new.reads + most_reads index.old.state name.now.space (met_of walk.new) ≤ index.old.reads + most_reads index.old.state name.now.space (met_of walk.old)) }
     ensures lacks { IfOk result (λ lacks. Lacks index.old.state name.now slot.now lacks) }
     ensures idle { IfOk result (λ lacks. lacks ≡ false → IsIdle (links_in index.old.state name.now.space) (met_of walk.new)) }
 {

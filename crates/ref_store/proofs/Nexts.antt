@@ -1,4 +1,4 @@
--- The first entry behind a place is the first reference behind its name.
+-- The first entry after a place is the first reference after its name.
 use Rattle.std.specs.Prelude.{◌≡◌, ℕ, Bool, true, false, cond, ◌&&◌, List, [], ◌∷◌, Option, None, Some, refl}
 use Rattle.std.proofs.Common.{ap, sym, ◌∙◌, subst}
 use Rattle.std.specs.Cmp.{eq_by_cmp_equiv}
@@ -20,15 +20,15 @@ use Rattle.ref_store.specs.declared.slot.Slot.{Slot}
 use Rattle.ref_store.specs.declared.place.Place.{Place}
 use Rattle.ref_store.specs.Slots.{Slots}
 use Rattle.ref_store.specs.Nexts.{is_behind, Next}
-use Rattle.ref_store.specs.Places.{place_cmp, place_of_name, with_entry, named, slots_of}
-use Rattle.ref_store.proofs.Pages.{entries-slots_of, sorted_named}
+use Rattle.ref_store.specs.inside.Places.{place_cmp, place_of_name, entry_then, by_names, slots_of}
+use Rattle.ref_store.proofs.Pages.{entries-slots_of, sorted_by_names}
 
--- where the range behind a name begins
+-- where the range after a name begins
 abbrev pub start_of : Option RefName → Bound Place
 start_of None = Unbounded
 start_of (Some name) = Excluded (place_of_name name)
 
--- the references behind a name
+-- the references after a name
 abbrev listed : Option RefName → List (RefName × Slot) → List (RefName × Slot)
 listed after es = filter (λ e. is_behind after e.0) es
 
@@ -44,24 +44,24 @@ cut_off : {A : Type 0} (b : Bool) (x : A) → cond b x x ≡ x
 cut_off true x = refl
 cut_off false x = refl
 
-named_if : (b : Bool) (e : Place × Slot) (es : List (Place × Slot)) → named (cond b (e ∷ es) es) ≡ cond b (with_entry e.0.space e.0.spot e.1 (named es)) (named es)
-named_if true e es = refl
-named_if false e es = refl
+by_names_if : (b : Bool) (e : Place × Slot) (es : List (Place × Slot)) → by_names (cond b (e ∷ es) es) ≡ cond b (entry_then e.0.space e.0.spot e.1 (by_names es)) (by_names es)
+by_names_if true e es = refl
+by_names_if false e es = refl
 
 -- one entry of the range
 front : (after : Option RefName) (space : List ℕ) (spot : Option RefSpot) (slot : Slot) (rest es : List (RefName × Slot)) → rest ≡ listed after es
-    → cond (range_contains place_cmp (start_of after) Unbounded (record { space = space; spot = spot })) (with_entry space spot slot rest) rest ≡ listed after (with_entry space spot slot es)
+    → cond (range_contains place_cmp (start_of after) Unbounded (record { space = space; spot = spot })) (entry_then space spot slot rest) rest ≡ listed after (entry_then space spot slot es)
 front after space None slot rest es h = cut_off _ rest ∙ h
 front after space (Some spot) slot rest es h =
     let name : RefName = record { space = space; spot = spot } in
     ap (λ (b : Bool). cond b ((name, slot) ∷ rest) rest) (in_range after name) ∙ ap (λ (r : List (RefName × Slot)). cond (is_behind after name) ((name, slot) ∷ r) r) h
 
--- the range's entries are the references behind the name
-ranged : (after : Option RefName) (es : List (Place × Slot)) → named (entries_between place_cmp (start_of after) Unbounded es) ≡ listed after (named es)
+-- the range's entries are the references after the name
+ranged : (after : Option RefName) (es : List (Place × Slot)) → by_names (entries_between place_cmp (start_of after) Unbounded es) ≡ listed after (by_names es)
 ranged after [] = refl
 ranged after (e ∷ es) =
-    named_if (range_contains place_cmp (start_of after) Unbounded e.0) e (entries_between place_cmp (start_of after) Unbounded es)
-    ∙ front after e.0.space e.0.spot e.1 (named (entries_between place_cmp (start_of after) Unbounded es)) (named es) (ranged after es)
+    by_names_if (range_contains place_cmp (start_of after) Unbounded e.0) e (entries_between place_cmp (start_of after) Unbounded es)
+    ∙ front after e.0.space e.0.spot e.1 (by_names (entries_between place_cmp (start_of after) Unbounded es)) (by_names es) (ranged after es)
 
 -- ---- the first of a list in order
 
@@ -91,7 +91,7 @@ not_found q x (e ∷ es) l h =
     let parts = both (is_lt (ref_name_cmp x e.0)) (below_all ref_name_cmp x es) h in
     ap (λ (o : Ordering). cond (is_eq o) (Some e.1) (find ref_name_cmp q es)) (ref_name_total.trans q x e.0 l (is_less _ parts.0)) ∙ not_found q x es l parts.1
 
--- a reference that isn't behind the name is passed over by those that are
+-- a reference that isn't after the name is passed over by those that are
 passed : (after : Option RefName) (e : RefName × Slot) (es : List (RefName × Slot)) (q : RefName) → is_behind after e.0 ≡ false → is_behind after q ≡ true → find ref_name_cmp q (e ∷ es) ≡ find ref_name_cmp q es
 passed after e es q f t = split (eq_by_cmp ref_name_cmp q e.0) refl where
   split : (b : Bool) → eq_by_cmp ref_name_cmp q e.0 ≡ b → cond b (Some e.1) (find ref_name_cmp q es) ≡ find ref_name_cmp q es
@@ -131,10 +131,10 @@ in_map slots after (Some e) h = record {
 }
 
 pub next_read : (slots : Slots) (after : Option RefName) (start : Bound Place) (found : Option (RefName × Slot)) (es : List (Place × Slot)) → slots_of es ≡ slots → IsStrictlySortedBy place_cmp (keys_of es) → start ≡ start_of after
-    → found ≡ slice_get (named (entries_between place_cmp start Unbounded es)) 0 → Next slots after found
+    → found ≡ slice_get (by_names (entries_between place_cmp start Unbounded es)) 0 → Next slots after found
 next_read slots after start found es v s at is =
-    let first : found ≡ slice_get (listed after (named es)) 0 = is ∙ ap (λ (b : Bound Place). slice_get (named (entries_between place_cmp b Unbounded es)) 0) at ∙ ap (λ (xs : List (RefName × Slot)). slice_get xs 0) (ranged after es) in
+    let first : found ≡ slice_get (listed after (by_names es)) 0 = is ∙ ap (λ (b : Bound Place). slice_get (by_names (entries_between place_cmp b Unbounded es)) 0) at ∙ ap (λ (xs : List (RefName × Slot)). slice_get xs 0) (ranged after es) in
     in_map slots after found
     (subst (λ (m : Slots). NextIn (entries m) after found) v
     (subst (λ (xs : List (RefName × Slot)). NextIn xs after found) (sym (entries-slots_of es s))
-    (subst (NextIn (named es) after) (sym first) (first_listed after (named es) (sorted_named es s)))))
+    (subst (NextIn (by_names es) after) (sym first) (first_listed after (by_names es) (sorted_by_names es s)))))

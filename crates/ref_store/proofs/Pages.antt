@@ -21,7 +21,7 @@ use Rattle.ref_store.specs.declared.slot.Slot.{Slot}
 use Rattle.ref_store.specs.declared.place.Place.{Place}
 use Rattle.ref_store.specs.Slots.{Slots}
 use Rattle.ref_store.specs.Pages.{is_after, slots_after}
-use Rattle.ref_store.specs.Places.{place_cmp, place_of_name, with_entry, named, slots_of, run_of, run_after}
+use Rattle.ref_store.specs.inside.Places.{place_cmp, place_of_name, entry_then, by_names, slots_of, run_of, run_after}
 
 after_by : (from : Option RefSpot) (spot : RefSpot) → is_after from spot ≡ is_lt (option_cmp spot_cmp from (Some spot))
 after_by None spot = refl
@@ -31,7 +31,7 @@ cut_off : {A : Type 0} (b : Bool) (x : A) → x ≡ cond b x x
 cut_off true x = refl
 cut_off false x = refl
 
-run_if : (b : Bool) (space : List ℕ) (e : Place × Slot) (es : List (Place × Slot)) → run_of space (cond b (e ∷ es) es) ≡ cond b (cond (is_eq (name_cmp e.0.space space)) (with_entry e.0.space e.0.spot e.1 (run_of space es)) []) (run_of space es)
+run_if : (b : Bool) (space : List ℕ) (e : Place × Slot) (es : List (Place × Slot)) → run_of space (cond b (e ∷ es) es) ≡ cond b (cond (is_eq (name_cmp e.0.space space)) (entry_then e.0.space e.0.spot e.1 (run_of space es)) []) (run_of space es)
 run_if true space e es = refl
 run_if false space e es = refl
 
@@ -40,7 +40,7 @@ listed_after space from es = filter (λ e. is_eq (name_cmp space e.0.space) && i
 
 -- one entry of the finite map
 front : (space : List ℕ) (from : Option RefSpot) (other : List ℕ) (spot : Option RefSpot) (slot : Slot) (es : List (RefName × Slot))
-    → listed_after space from (with_entry other spot slot es) ≡ cond (is_eq (name_cmp space other) && is_lt (option_cmp spot_cmp from spot)) (with_entry other spot slot (listed_after space from es)) (listed_after space from es)
+    → listed_after space from (entry_then other spot slot es) ≡ cond (is_eq (name_cmp space other) && is_lt (option_cmp spot_cmp from spot)) (entry_then other spot slot (listed_after space from es)) (listed_after space from es)
 front space from other None slot es = cut_off _ _
 front space from other (Some spot) slot es = ap (λ (b : Bool). cond (is_eq (name_cmp space other) && b) ((record { space = other; spot = spot }, slot) ∷ listed_after space from es) (listed_after space from es)) (after_by from spot)
 
@@ -60,44 +60,44 @@ first_less Greater p h = absurd (cc)
 still_less : (a b c : List ℕ) (p : Ordering) → name_cmp a b ≡ Less → ordering_then (name_cmp b c) p ≡ Less → name_cmp a c ≡ Less
 still_less a b c p h k = elim (first_less (name_cmp b c) p k) [ inl l ↦ name_total.trans a b c h l | inr e ↦ subst (λ (x : List ℕ). name_cmp a x ≡ Less) (name_exact b c e) h ]
 
--- behind a later namespace there is nothing
-later_none : (space : List ℕ) (from : Option RefSpot) (place : Place) (es : List (Place × Slot)) → name_cmp space place.space ≡ Less → AllByRecursion (λ y. place_cmp place y ≡ Less) (keys_of es) → listed_after space from (named es) ≡ []
+-- after a later namespace there is nothing
+later_none : (space : List ℕ) (from : Option RefSpot) (place : Place) (es : List (Place × Slot)) → name_cmp space place.space ≡ Less → AllByRecursion (λ y. place_cmp place y ≡ Less) (keys_of es) → listed_after space from (by_names es) ≡ []
 later_none space from place [] h all = refl
 later_none space from place (e ∷ es) h all =
-    front space from e.0.space e.0.spot e.1 (named es)
-    ∙ ap (λ (o : Ordering). cond (is_eq o && is_lt (option_cmp spot_cmp from e.0.spot)) (with_entry e.0.space e.0.spot e.1 (listed_after space from (named es))) (listed_after space from (named es))) (still_less space place.space e.0.space _ h all.0)
+    front space from e.0.space e.0.spot e.1 (by_names es)
+    ∙ ap (λ (o : Ordering). cond (is_eq o && is_lt (option_cmp spot_cmp from e.0.spot)) (entry_then e.0.space e.0.spot e.1 (listed_after space from (by_names es))) (listed_after space from (by_names es))) (still_less space place.space e.0.space _ h all.0)
     ∙ later_none space from place es h all.1
 
-same_slots : (space : List ℕ) (from : Option RefSpot) (es : List (Place × Slot)) → IsStrictlySortedBy place_cmp (keys_of es) → listed_after space from (named es) ≡ run_after space from es
+same_slots : (space : List ℕ) (from : Option RefSpot) (es : List (Place × Slot)) → IsStrictlySortedBy place_cmp (keys_of es) → listed_after space from (by_names es) ≡ run_after space from es
 same_slots space from [] s = refl
 same_slots space from (e ∷ es) s =
-    front space from e.0.space e.0.spot e.1 (named es)
-    ∙ one_entry (name_cmp space e.0.space) (option_cmp spot_cmp from e.0.spot) (is_eq (name_cmp e.0.space space)) _ _ (with_entry e.0.space e.0.spot e.1) ((eq_by_cmp_equiv name_total).symm e.0.space space)
+    front space from e.0.space e.0.spot e.1 (by_names es)
+    ∙ one_entry (name_cmp space e.0.space) (option_cmp spot_cmp from e.0.spot) (is_eq (name_cmp e.0.space space)) _ _ (entry_then e.0.space e.0.spot e.1) ((eq_by_cmp_equiv name_total).symm e.0.space space)
     (same_slots space from es (sorted_tail place_cmp e.0 (keys_of es) s)) (λ l. later_none space from e.0 es l (sorted_head place_cmp e.0 (keys_of es) s))
     ∙ sym (run_if _ space e (entries_between place_cmp (Excluded (record { space = space; spot = from })) Unbounded es))
 
-below_step : (name : RefName) (space : List ℕ) (spot : Option RefSpot) (slot : Slot) (es : List (RefName × Slot)) → place_cmp (place_of_name name) (record { space = space; spot = spot }) ≡ Less → below_all ref_name_cmp name es ≡ true → below_all ref_name_cmp name (with_entry space spot slot es) ≡ true
+below_step : (name : RefName) (space : List ℕ) (spot : Option RefSpot) (slot : Slot) (es : List (RefName × Slot)) → place_cmp (place_of_name name) (record { space = space; spot = spot }) ≡ Less → below_all ref_name_cmp name es ≡ true → below_all ref_name_cmp name (entry_then space spot slot es) ≡ true
 below_step name space None slot es l h = h
 below_step name space (Some spot) slot es l h = ap (λ (o : Ordering). is_lt o && below_all ref_name_cmp name es) l ∙ h
 
-below_named : (name : RefName) (es : List (Place × Slot)) → AllByRecursion (λ y. place_cmp (place_of_name name) y ≡ Less) (keys_of es) → below_all ref_name_cmp name (named es) ≡ true
-below_named name [] all = refl
-below_named name (e ∷ es) all = below_step name e.0.space e.0.spot e.1 (named es) all.0 (below_named name es all.1)
+below_by_names : (name : RefName) (es : List (Place × Slot)) → AllByRecursion (λ y. place_cmp (place_of_name name) y ≡ Less) (keys_of es) → below_all ref_name_cmp name (by_names es) ≡ true
+below_by_names name [] all = refl
+below_by_names name (e ∷ es) all = below_step name e.0.space e.0.spot e.1 (by_names es) all.0 (below_by_names name es all.1)
 
-sorted_step : (space : List ℕ) (spot : Option RefSpot) (slot : Slot) (es : List (Place × Slot)) → AllByRecursion (λ y. place_cmp (record { space = space; spot = spot }) y ≡ Less) (keys_of es) → is_sorted ref_name_cmp (named es) ≡ true → is_sorted ref_name_cmp (with_entry space spot slot (named es)) ≡ true
+sorted_step : (space : List ℕ) (spot : Option RefSpot) (slot : Slot) (es : List (Place × Slot)) → AllByRecursion (λ y. place_cmp (record { space = space; spot = spot }) y ≡ Less) (keys_of es) → is_sorted ref_name_cmp (by_names es) ≡ true → is_sorted ref_name_cmp (entry_then space spot slot (by_names es)) ≡ true
 sorted_step space None slot es all h = h
-sorted_step space (Some spot) slot es all h = ap (λ (b : Bool). b && is_sorted ref_name_cmp (named es)) (below_named (record { space = space; spot = spot }) es all) ∙ h
+sorted_step space (Some spot) slot es all h = ap (λ (b : Bool). b && is_sorted ref_name_cmp (by_names es)) (below_by_names (record { space = space; spot = spot }) es all) ∙ h
 
-pub sorted_named : (es : List (Place × Slot)) → IsStrictlySortedBy place_cmp (keys_of es) → is_sorted ref_name_cmp (named es) ≡ true
-sorted_named [] s = refl
-sorted_named (e ∷ es) s = sorted_step e.0.space e.0.spot e.1 es (sorted_head place_cmp e.0 (keys_of es) s) (sorted_named es (sorted_tail place_cmp e.0 (keys_of es) s))
+pub sorted_by_names : (es : List (Place × Slot)) → IsStrictlySortedBy place_cmp (keys_of es) → is_sorted ref_name_cmp (by_names es) ≡ true
+sorted_by_names [] s = refl
+sorted_by_names (e ∷ es) s = sorted_step e.0.space e.0.spot e.1 es (sorted_head place_cmp e.0 (keys_of es) s) (sorted_by_names es (sorted_tail place_cmp e.0 (keys_of es) s))
 
 -- the finite map's entries are the ordered map's, by names
-pub entries-slots_of : (es : List (Place × Slot)) → IsStrictlySortedBy place_cmp (keys_of es) → entries (slots_of es) ≡ named es
+pub entries-slots_of : (es : List (Place × Slot)) → IsStrictlySortedBy place_cmp (keys_of es) → entries (slots_of es) ≡ by_names es
 entries-slots_of es s =
-    let t : T (is_sorted ref_name_cmp (named es)) = subst T (sym (sorted_named es s)) tt in
-    ap entries (same_map ref_name_total ref_name_exact (slots_of es) (from_sorted (named es)) (λ q. get-from_entries ref_name_total (named es) q ∙ sym (get-from_sorted ref_name_cmp (named es) q t)))
-    ∙ entries-from_sorted ref_name_cmp (named es) t
+    let t : T (is_sorted ref_name_cmp (by_names es)) = subst T (sym (sorted_by_names es s)) tt in
+    ap entries (same_map ref_name_total ref_name_exact (slots_of es) (from_sorted (by_names es)) (λ q. get-from_entries ref_name_total (by_names es) q ∙ sym (get-from_sorted ref_name_cmp (by_names es) q t)))
+    ∙ entries-from_sorted ref_name_cmp (by_names es) t
 
 pub run_read : (slots : Slots) (space : List ℕ) (from : Option RefSpot) (es : List (Place × Slot)) → slots_of es ≡ slots → IsStrictlySortedBy place_cmp (keys_of es) → run_after space from es ≡ slots_after slots space from
 run_read slots space from es v s = sym (same_slots space from es s) ∙ ap (listed_after space from) (sym (entries-slots_of es s)) ∙ ap (λ (m : Slots). slots_after m space from) v

@@ -13,23 +13,23 @@ use Rattle.ddc_names.specs.declared.reference.RefName.{RefName}
 use Rattle.ddc_names.specs.declared.reference.RefSpot.{RefSpot}
 use Rattle.ref_store.specs.declared.slot.Slot.{Slot}
 use Rattle.ref_store.specs.declared.place.Place.{Place}
-use Rattle.ref_store.specs.Places.{place_of_name, place_cmp, with_entry, named, slots_of}
+use Rattle.ref_store.specs.inside.Places.{place_of_name, place_cmp, entry_then, by_names, slots_of}
 
 never_tied : (o : Ordering) → is_eq (ordering_then o Greater) ≡ false
 never_tied Less = refl
 never_tied Equal = refl
 never_tied Greater = refl
 
-find-with_entry : (q : RefName) (space : List ℕ) (spot : Option RefSpot) (slot : Slot) (es : List (RefName × Slot)) (r : Option Slot) → find ref_name_cmp q es ≡ r → find ref_name_cmp q (with_entry space spot slot es) ≡ cond (is_at (place_cmp (place_of_name q)) (record { space = space; spot = spot })) (Some slot) r
-find-with_entry q space None slot es r h = h ∙ sym (ap (λ b. cond b (Some slot) r) (never_tied (name_cmp q.space space)))
-find-with_entry q space (Some spot) slot es r h = ap (cond (eq_by_cmp ref_name_cmp q (record { space = space; spot = spot })) (Some slot)) h
+find-entry_then : (q : RefName) (space : List ℕ) (spot : Option RefSpot) (slot : Slot) (es : List (RefName × Slot)) (r : Option Slot) → find ref_name_cmp q es ≡ r → find ref_name_cmp q (entry_then space spot slot es) ≡ cond (is_at (place_cmp (place_of_name q)) (record { space = space; spot = spot })) (Some slot) r
+find-entry_then q space None slot es r h = h ∙ sym (ap (λ b. cond b (Some slot) r) (never_tied (name_cmp q.space space)))
+find-entry_then q space (Some spot) slot es r h = ap (cond (eq_by_cmp ref_name_cmp q (record { space = space; spot = spot })) (Some slot)) h
 
-find-named : (es : List (Place × Slot)) (q : RefName) → find ref_name_cmp q (named es) ≡ lookup (is_at (place_cmp (place_of_name q))) es
-find-named [] q = refl
-find-named (e ∷ es) q = find-with_entry q e.0.space e.0.spot e.1 (named es) _ (find-named es q)
+find-by_names : (es : List (Place × Slot)) (q : RefName) → find ref_name_cmp q (by_names es) ≡ lookup (is_at (place_cmp (place_of_name q))) es
+find-by_names [] q = refl
+find-by_names (e ∷ es) q = find-entry_then q e.0.space e.0.spot e.1 (by_names es) _ (find-by_names es q)
 
 pub get-slots_of : (es : List (Place × Slot)) (q : RefName) → get (slots_of es) q ≡ lookup (is_at (place_cmp (place_of_name q))) es
-get-slots_of es q = get-from_entries ref_name_total (named es) q ∙ find-named es q
+get-slots_of es q = get-from_entries ref_name_total (by_names es) q ∙ find-by_names es q
 
 pub found : (es : List (Place × Slot)) (place : Place) (s : RefName) → place ≡ place_of_name s → lookup (is_at (place_cmp place)) es ≡ get (slots_of es) s
 found es place s at = ap (λ (p : Place). lookup (is_at (place_cmp p)) es) at ∙ sym (get-slots_of es s)

@@ -1,4 +1,4 @@
 pub mod Slots
 pub mod Pages
-pub mod Places
 pub mod Nexts
+pub mod inside

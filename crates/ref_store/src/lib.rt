@@ -3,11 +3,11 @@
 #![tactic(auto)]
 
 mod place;
+mod ranges;
 mod slot;
 mod table;
 #[cfg(test)]
 mod tests;
-mod walk;
 
 pub use slot::{RefRow, Slot, SlotPage};
 pub use table::RefTable;

@@ -1,7 +1,7 @@
 //! The keys of the ordered map in which the table keeps its slots.
 
 ghost use Rattle.std.specs.Prelude.{◌≡◌};
-ghost use Rattle.ref_store.specs.Places.{place_of_name};
+ghost use Rattle.ref_store.specs.inside.Places.{place_of_name};
 
 use ddc_names::{Namespace, RefName, RefSpot};
 

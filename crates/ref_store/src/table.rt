@@ -7,7 +7,7 @@ ghost use Rattle.ref_store.specs.Pages.{cut_page, page_of, expired_of};
 ghost use Rattle.ref_store.specs.Nexts.{Next};
 
 use crate::place::Place;
-use crate::walk::{first_expired, first_from, first_rows};
+use crate::ranges::{first_expired, first_from, first_rows};
 use crate::{RefRow, Slot, SlotPage};
 use ddc_names::{Namespace, NoMemory, RefName, RefSpot, Rows};
 use std::alloc::Global;
@@ -25,7 +25,7 @@ impl Model for RefTable {
     ghost use Rattle.std.specs.Prelude.{◌≡◌, length};
     ghost use Rattle.std.specs.FinMap as map;
     ghost use Rattle.ref_store.specs.Slots.{Slots, coded_slots};
-    ghost use Rattle.ref_store.specs.Places.{slots_of};
+    ghost use Rattle.ref_store.specs.inside.Places.{slots_of};
 
     ghost Value = { Slots };
 
@@ -87,7 +87,7 @@ impl RefTable {
         self.slots.len() as u64
     }
 
-    /// The first reference behind another one by name, or the first of all, with its slot.
+    /// The first reference after another one by name, or the first of all, with its slot.
     pub fn next(&self, after: Option<&RefName>) -> Option<(RefName, Slot)>
         ensures { Next self.now (option_copied after.entry) result }
     {

@@ -1,5 +1,4 @@
-pub mod Laws
+pub mod Cuts
 pub mod Facts
 pub mod Worked
 mod Bytes
-mod Rounds

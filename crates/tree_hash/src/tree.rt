@@ -2,7 +2,7 @@
 ghost use Rattle.std.specs.Prelude.{◌≡◌, ℕ, ◌+◌, ◌*◌, ◌/◌, ◌^◌, ◌<◌, ◌≤◌, length};
 ghost use Rattle.tree_hash.specs.TreeHash.{blake3, value, words_bytes};
 
-use crate::block::{chunk_value, parent_value};
+use crate::block::{flagged_chunk, flagged_parent};
 
 // The height of the left part of more bytes than a chunk: it holds 2 ^ height chunks, the greatest power
 // of two that leaves at least one byte for the right.
@@ -29,15 +29,16 @@ fn value(bytes: &[u8], number: u64, flag: u32) -> [u32; 8]
     ensures { result ≡ value bytes.now number flag }
 {
     if bytes.len() <= 1024 {
-        return chunk_value(bytes, number, flag);
+        return flagged_chunk(bytes, number, flag);
     }
     let chunks = 1usize << left_height(bytes.len());
     let left = value(&bytes[..1024 * chunks], number, 0);
     let right = value(&bytes[1024 * chunks..], number + chunks as u64, 0);
-    parent_value(&left, &right, flag)
+    flagged_parent(&left, &right, flag)
 }
 
-fn bytes_of(words: &[u32; 8]) -> [u8; 32]
+/// The 32 bytes of a value, its words low byte first (BLAKE3 specification, section 2.6).
+pub fn bytes_of(words: &[u32; 8]) -> [u8; 32]
     ensures { result ≡ words_bytes words.now }
 {
     let mut out = [0u8; 32];

@@ -2,7 +2,7 @@
 
 ghost use Rattle.std.specs.Prelude.{◌≡◌, ◌≤◌, true, OnOk, OnErr, IfOk};
 ghost use Rattle.std.specs.FinMap as map;
-ghost use Rattle.ddc_model.specs.Entries.{after, blob_of, is_fresh, is_root, raised, slot_after, with_blob, with_pin, with_slot};
+ghost use Rattle.ddc_model.specs.Entries.{after, blob_of, is_fresh, is_root, at_hour, slot_after, with_blob, with_pin, with_slot};
 ghost use Rattle.ddc_model.specs.Limits.{most_bytes};
 ghost use Rattle.ddc_model.specs.declared.entry.Entry.TheVariants.{Space, Upload, Repin, Put, Finalise, Delete, Touch};
 ghost use Rattle.ddc_state.specs.Views.{in_state, without_blob};
@@ -119,7 +119,7 @@ impl Index {
     }
 
     fn raise(&mut self, hour: u32)
-        ensures { self.new ≡ in_state self.old (raised self.old.state hour) }
+        ensures { self.new ≡ in_state self.old (at_hour self.old.state hour) }
     {
         self.hour = self.hour.max(hour);
     }

@@ -1,9 +1,9 @@
 use Rattle.std.proofs.Common.{◌≡◌, true, List, [], ◌∷◌, ◌++◌}
 use Rattle.cb_fields.specs.declared.links.Link.{Link}
-use Rattle.cb_fields.specs.Form.{counted}
+use Rattle.cb_fields.specs.Shape.{counted}
 use Rattle.cb_fields.specs.Language.{starts_object}
 use Rattle.cb_fields.specs.Fault.{FaultAt}
-use Rattle.cb_fields.specs.Walk.{Cut, Fault, Comes, Carries, StepsOn}
+use Rattle.cb_fields.specs.inside.FieldWalk.{Cut, Fault, Comes, Carries, StepsOn}
 use Rattle.cb_fields.proofs.Agree.{comes_object, comes_fault, fault_no_object}
 use Rattle.cb_fields.proofs.check.check_object.Goals as goal
 

@@ -1,6 +1,6 @@
 use Rattle.std.proofs.Common.{List}
 use Rattle.cb_fields.specs.declared.links.Link.{Link}
-use Rattle.cb_fields.specs.Walk.{InBounds, Carries, ahead}
+use Rattle.cb_fields.specs.inside.FieldWalk.{InBounds, Carries, ahead}
 use Rattle.cb_fields.proofs.check.check_object.Given as goal
 
 abbrev pub invariant-loop-walk : goal.invariant-loop-walk

@@ -1,10 +1,10 @@
 use Rattle.std.proofs.Common.{◌≡◌, true, List, []}
 use Rattle.std.proofs.lemmas.List.{append-nil}
 use Rattle.cb_fields.specs.declared.links.Link.{Link}
-use Rattle.cb_fields.specs.Form.{counted}
+use Rattle.cb_fields.specs.Shape.{counted}
 use Rattle.cb_fields.specs.Language.{starts_object, HasLinks}
 use Rattle.cb_fields.specs.Fault.{FaultAt}
-use Rattle.cb_fields.specs.Walk.{Cut, Fault, Comes, Carries, StepsOn}
+use Rattle.cb_fields.specs.inside.FieldWalk.{Cut, Fault, Comes, Carries, StepsOn}
 use Rattle.cb_fields.proofs.Agree.{comes_object, comes_fault, object_links, fault_links}
 use Rattle.cb_fields.proofs.check.links_of.Goals as goal
 

@@ -1,4 +1,4 @@
-use Rattle.cb_fields.specs.Walk.{InBounds, Carries, ahead}
+use Rattle.cb_fields.specs.inside.FieldWalk.{InBounds, Carries, ahead}
 use Rattle.cb_fields.proofs.check.links_of.Given as goal
 
 abbrev pub invariant-loop-walk : goal.invariant-loop-walk

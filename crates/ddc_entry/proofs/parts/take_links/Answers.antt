@@ -1,5 +1,5 @@
 use Rattle.std.proofs.lemmas.Result.{err_from_is_err_and}
-use Rattle.ddc_entry.specs.Reading.{links_at}
+use Rattle.ddc_entry.specs.inside.Reading.{links_at}
 use Rattle.ddc_entry.proofs.Links.{goes_on, ends, all_read}
 use Rattle.ddc_entry.proofs.parts.take_links.Goals as goal
 

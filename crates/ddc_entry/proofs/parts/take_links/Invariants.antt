@@ -1,5 +1,5 @@
 use Rattle.std.proofs.Common.{◌≡◌, ◌-◌}
-use Rattle.ddc_entry.specs.Reading.{links_at}
+use Rattle.ddc_entry.specs.inside.Reading.{links_at}
 use Rattle.ddc_entry.proofs.Links.{behind}
 use Rattle.ddc_entry.proofs.parts.take_links.Given as goal
 

@@ -8,13 +8,13 @@ use Rattle.needs_resolver.proofs.Reading.{no_keys, one_key, fresh_known, fresh_w
 use Rattle.needs_resolver.proofs.missing.needs_with.Goals as goal
 
 pub returns-in_err-read_all-clause-each_blob_is_read_once_at_most : goal.returns-in_err-read_all-clause-each_blob_is_read_once_at_most
-returns-in_err-read_all-clause-each_blob_is_read_once_at_most c = reads_at_most c.args.index.now.state (met_of c.in_ok-walk.walk) (met_of c.meet_all.new.self) _ _ c.in_ok-walk.ensures.work c.in_ok-meet_all.ensures.less c.in_err-read_all.ensures.counted
+returns-in_err-read_all-clause-each_blob_is_read_once_at_most c = reads_at_most c.args.index.now.state c.args.space.now (met_of c.in_ok-walk.walk) (met_of c.meet_all.new.self) _ _ c.in_ok-walk.ensures.work c.in_ok-meet_all.ensures.less c.in_err-read_all.ensures.counted
 
 pub returns-in_err-needs-clause-each_blob_is_read_once_at_most : goal.returns-in_err-needs-clause-each_blob_is_read_once_at_most
-returns-in_err-needs-clause-each_blob_is_read_once_at_most c = reads_at_most c.args.index.now.state (met_of c.in_ok-walk.walk) (met_of c.meet_all.new.self) _ _ c.in_ok-walk.ensures.work c.in_ok-meet_all.ensures.less c.in_ok-read_all.ensures.counted
+returns-in_err-needs-clause-each_blob_is_read_once_at_most c = reads_at_most c.args.index.now.state c.args.space.now (met_of c.in_ok-walk.walk) (met_of c.meet_all.new.self) _ _ c.in_ok-walk.ensures.work c.in_ok-meet_all.ensures.less c.in_ok-read_all.ensures.counted
 
 pub returns-clause-each_blob_is_read_once_at_most : goal.returns-clause-each_blob_is_read_once_at_most
-returns-clause-each_blob_is_read_once_at_most c = reads_at_most c.args.index.now.state (met_of c.in_ok-walk.walk) (met_of c.meet_all.new.self) _ _ c.in_ok-walk.ensures.work c.in_ok-meet_all.ensures.less c.in_ok-read_all.ensures.counted
+returns-clause-each_blob_is_read_once_at_most c = reads_at_most c.args.index.now.state c.args.space.now (met_of c.in_ok-walk.walk) (met_of c.meet_all.new.self) _ _ c.in_ok-walk.ensures.work c.in_ok-meet_all.ensures.less c.in_ok-read_all.ensures.counted
 
 pub returns-clause-needs : goal.returns-clause-needs
 returns-clause-needs c =

@@ -1,5 +1,5 @@
 use Rattle.std.proofs.Common.{arith}
-use Rattle.tree_hash.proofs.Laws.{height_below}
+use Rattle.tree_hash.proofs.Cuts.{height_below}
 use Rattle.tree_hash.proofs.tree.left_height.Goals as goal
 
 pub overflow_add-height : goal.overflow_add-height

@@ -3,9 +3,9 @@ use Rattle.ddc_model.specs.declared.rows.Blob.{Blob}
 use Rattle.ddc_model.specs.declared.entry.Entry.{Entry}
 use Rattle.ddc_model.specs.declared.entry.Entry.TheVariants.{Put}
 use Rattle.ddc_model.specs.State.{blob_at}
-use Rattle.ddc_model.specs.Content.{named}
+use Rattle.ddc_model.specs.Content.{content_hash}
 use Rattle.ddc_model.specs.Counts.{fresh_of}
-use Rattle.ddc_model.specs.Commands.{hour_of, is_empty, PutAs}
+use Rattle.ddc_model.specs.Commands.{hour_of, needs_none, PutAs}
 use Rattle.ddc_book.specs.View.{BookView}
 use Rattle.ddc_book.specs.Calls.{Gives}
 use Rattle.ddc_book.specs.Making.{full_by, Brings, IsFit}
@@ -20,7 +20,7 @@ returns-in-Some-clause-gives g c =
     let s = c.args.self.now.cache.index in
     let name = c.args.name.now in
     let object = c.args.object.now in
-    let there = mapped (λ (blob : Blob). blob.row.at) (blob_at s name.space (named object.bytes)) ∙ c.requires.there in
+    let there = mapped (λ (blob : Blob). blob.row.at) (blob_at s name.space (content_hash object.bytes)) ∙ c.requires.there in
     refuses c.args.self.now object.bytes (PutAs s name object c.args.hour) c.requires.serves.unbroken c.in-Some.fault c.in-Some.ensures.refusal
     (put_is_full s name object c.args.hour c.requires.known None (fresh_known s name object c.args.hour there) c.in-Some.fault (ap (full_by s 0 None) (sym c.added_refs.ensures) ∙ sym c.in-Some.ensures.fault))
 
@@ -30,10 +30,10 @@ make-requires-clause-fit g c =
     let name = c.args.name.now in
     let object = c.args.object.now in
     let same = c.missing.ensures.same in
-    let there = mapped (λ (blob : Blob). blob.row.at) (blob_at s name.space (named object.bytes)) ∙ c.requires.there in
+    let there = mapped (λ (blob : Blob). blob.row.at) (blob_at s name.space (content_hash object.bytes)) ∙ c.requires.there in
     let entry = c.in-Ok-put_entry.entry in
-    let is : entry ≡ Put name c.hash_of-root.result None (is_empty c.in-Ok.missing) (hour_of s c.args.hour) =
-    c.in-Ok-put_entry.ensures ∙ ap (λ (b : BookView g.row.D.Denot). Put name c.hash_of-root.result None (is_empty c.in-Ok.missing) (hour_of b.cache.index c.args.hour)) same in
+    let is : entry ≡ Put name c.hash_of-root.result None (needs_none c.in-Ok.missing) (hour_of s c.args.hour) =
+    c.in-Ok-put_entry.ensures ∙ ap (λ (b : BookView g.row.D.Denot). Put name c.hash_of-root.result None (needs_none c.in-Ok.missing) (hour_of b.cache.index c.args.hour)) same in
     let makes = known_put c.args.self.now.cache name object c.args.hour c.requires.known there c.added_refs.result c.added_refs.ensures c.in_default.ensures.fault
     c.in-Ok.missing c.hash_of-root.result c.hash_of-root.ensures.hash c.in-Ok.ensures.needs entry is in
     let brings : Brings (fresh_of entry) None = subst (λ (e : Entry). Brings (fresh_of e) None) (sym is) tt in
@@ -47,10 +47,10 @@ returns-clause-gives g c =
     let name = c.args.name.now in
     let object = c.args.object.now in
     let same = c.missing.ensures.same in
-    let there = mapped (λ (blob : Blob). blob.row.at) (blob_at s name.space (named object.bytes)) ∙ c.requires.there in
+    let there = mapped (λ (blob : Blob). blob.row.at) (blob_at s name.space (content_hash object.bytes)) ∙ c.requires.there in
     let entry = c.in-Ok-put_entry.entry in
-    let is : entry ≡ Put name c.hash_of-root.result None (is_empty c.in-Ok.missing) (hour_of s c.args.hour) =
-    c.in-Ok-put_entry.ensures ∙ ap (λ (b : BookView g.row.D.Denot). Put name c.hash_of-root.result None (is_empty c.in-Ok.missing) (hour_of b.cache.index c.args.hour)) same in
+    let is : entry ≡ Put name c.hash_of-root.result None (needs_none c.in-Ok.missing) (hour_of s c.args.hour) =
+    c.in-Ok-put_entry.ensures ∙ ap (λ (b : BookView g.row.D.Denot). Put name c.hash_of-root.result None (needs_none c.in-Ok.missing) (hour_of b.cache.index c.args.hour)) same in
     let makes = known_put c.args.self.now.cache name object c.args.hour c.requires.known there c.added_refs.result c.added_refs.ensures c.in_default.ensures.fault
     c.in-Ok.missing c.hash_of-root.result c.hash_of-root.ensures.hash c.in-Ok.ensures.needs entry is in
     gives c.args.self.now c.make.new.self [] entry c.in-Ok.missing (PutAs s name object c.args.hour) makes

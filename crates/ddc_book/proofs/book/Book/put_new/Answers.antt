@@ -2,9 +2,9 @@ use Rattle.std.proofs.Common.{◌≡◌, ap, sym, ◌∙◌, subst, Some, ℕ, L
 use Rattle.ddc_model.specs.declared.entry.Entry.{Entry}
 use Rattle.ddc_model.specs.declared.entry.Entry.TheVariants.{Put}
 use Rattle.ddc_model.specs.declared.entry.Stored.{Stored}
-use Rattle.ddc_model.specs.Content.{named}
+use Rattle.ddc_model.specs.Content.{content_hash}
 use Rattle.ddc_model.specs.Counts.{fresh_of}
-use Rattle.ddc_model.specs.Commands.{changed, hour_of, is_empty, PutAs}
+use Rattle.ddc_model.specs.Commands.{changed, hour_of, needs_none, PutAs}
 use Rattle.ddc_book.specs.View.{BookView}
 use Rattle.ddc_book.specs.Calls.{Gives}
 use Rattle.ddc_book.specs.Making.{full_by, Brings, IsFit}
@@ -19,7 +19,7 @@ returns-in-Some-clause-gives g c =
     let s = c.args.self.now.cache.index in
     let name = c.args.name.now in
     let object = c.args.object in
-    let absent = not_there s name.space (named object.bytes) c.requires.absent in
+    let absent = not_there s name.space (content_hash object.bytes) c.requires.absent in
     refuses c.args.self.now object.bytes (PutAs s name object c.args.hour) c.requires.serves.unbroken c.in-Some.fault c.in-Some.ensures.refusal
     (put_is_full s name object c.args.hour c.requires.known (Some c.in-Ok.fresh) (ap Some c.in-Ok.ensures.stored ∙ fresh_new s name object c.args.hour absent) c.in-Some.fault
     (ap (full_by s 0 (Some c.in-Ok.fresh)) (sym c.added_refs.ensures) ∙ sym c.in-Some.ensures.fault))
@@ -30,10 +30,10 @@ make-requires-clause-fit g c =
     let name = c.args.name.now in
     let object = c.args.object in
     let same = c.missing_with.ensures.same in
-    let absent = not_there s name.space (named object.bytes) c.requires.absent in
+    let absent = not_there s name.space (content_hash object.bytes) c.requires.absent in
     let entry = c.in-Ok-put_entry.entry in
-    let is : entry ≡ Put name c.hash_of-root.result (Some c.in-Ok.fresh) (is_empty c.in-Ok-missing_with.missing) (hour_of s c.args.hour) =
-    c.in-Ok-put_entry.ensures ∙ ap (λ (b : BookView g.row.D.Denot). Put name c.hash_of-root.result (Some c.in-Ok.fresh) (is_empty c.in-Ok-missing_with.missing) (hour_of b.cache.index c.args.hour)) same in
+    let is : entry ≡ Put name c.hash_of-root.result (Some c.in-Ok.fresh) (needs_none c.in-Ok-missing_with.missing) (hour_of s c.args.hour) =
+    c.in-Ok-put_entry.ensures ∙ ap (λ (b : BookView g.row.D.Denot). Put name c.hash_of-root.result (Some c.in-Ok.fresh) (needs_none c.in-Ok-missing_with.missing) (hour_of b.cache.index c.args.hour)) same in
     let makes = new_put c.args.self.now.cache name object c.args.hour c.requires.known absent c.in-Ok.fresh c.in-Ok.ensures.stored c.added_refs.result c.added_refs.ensures c.in_default-full.ensures.fault
     c.in-Ok-missing_with.missing c.hash_of-root.result c.hash_of-root.ensures.hash c.links.result.now c.links.ensures.links c.in-Ok-missing_with.ensures.needs entry is in
     let brings : Brings (fresh_of entry) (Some c.into_whole.result) = subst (λ (e : Entry). Brings (fresh_of e) (Some c.into_whole.result)) (sym is)
@@ -48,10 +48,10 @@ returns-clause-gives g c =
     let name = c.args.name.now in
     let object = c.args.object in
     let same = c.missing_with.ensures.same in
-    let absent = not_there s name.space (named object.bytes) c.requires.absent in
+    let absent = not_there s name.space (content_hash object.bytes) c.requires.absent in
     let entry = c.in-Ok-put_entry.entry in
-    let is : entry ≡ Put name c.hash_of-root.result (Some c.in-Ok.fresh) (is_empty c.in-Ok-missing_with.missing) (hour_of s c.args.hour) =
-    c.in-Ok-put_entry.ensures ∙ ap (λ (b : BookView g.row.D.Denot). Put name c.hash_of-root.result (Some c.in-Ok.fresh) (is_empty c.in-Ok-missing_with.missing) (hour_of b.cache.index c.args.hour)) same in
+    let is : entry ≡ Put name c.hash_of-root.result (Some c.in-Ok.fresh) (needs_none c.in-Ok-missing_with.missing) (hour_of s c.args.hour) =
+    c.in-Ok-put_entry.ensures ∙ ap (λ (b : BookView g.row.D.Denot). Put name c.hash_of-root.result (Some c.in-Ok.fresh) (needs_none c.in-Ok-missing_with.missing) (hour_of b.cache.index c.args.hour)) same in
     let makes = new_put c.args.self.now.cache name object c.args.hour c.requires.known absent c.in-Ok.fresh c.in-Ok.ensures.stored c.added_refs.result c.added_refs.ensures c.in_default-full.ensures.fault
     c.in-Ok-missing_with.missing c.hash_of-root.result c.hash_of-root.ensures.hash c.links.result.now c.links.ensures.links c.in-Ok-missing_with.ensures.needs entry is in
     gives c.args.self.now c.make.new.self c.into_whole.result entry c.in-Ok-missing_with.missing (PutAs s name object c.args.hour) makes

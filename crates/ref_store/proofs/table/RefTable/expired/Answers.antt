@@ -4,7 +4,7 @@ use Rattle.ddc_names.specs.declared.reference.RefName.{RefName}
 use Rattle.ddc_names.specs.declared.reference.RefSpot.{RefSpot}
 use Rattle.ref_store.specs.declared.slot.Slot.{Slot}
 use Rattle.ref_store.specs.Pages.{expired_spot, expired_of}
-use Rattle.ref_store.specs.Places.{run_after}
+use Rattle.ref_store.specs.inside.Places.{run_after}
 use Rattle.ref_store.proofs.Answered.{at_ok}
 use Rattle.ref_store.proofs.Pages.{run_read}
 use Rattle.ref_store.proofs.table.RefTable.expired.Goals as goal

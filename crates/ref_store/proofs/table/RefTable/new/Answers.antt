@@ -3,7 +3,7 @@ use Rattle.std.specs.FinMap as map
 use Rattle.ddc_names.specs.Orders.{ref_name_cmp}
 use Rattle.ref_store.specs.declared.slot.Slot.{Slot}
 use Rattle.ref_store.specs.declared.place.Place.{Place}
-use Rattle.ref_store.specs.Places.{slots_of}
+use Rattle.ref_store.specs.inside.Places.{slots_of}
 use Rattle.ref_store.proofs.table.RefTable.new.Goals as goal
 
 pub invariant_of-result : goal.invariant_of-result

@@ -1,7 +1,7 @@
 use Rattle.std.proofs.Common.{ap, sym, refl, ◌∙◌}
 use Rattle.std.specs.FinMap as map
 use Rattle.ref_store.specs.Slots.{Slots}
-use Rattle.ref_store.specs.Places.{place_of_name}
+use Rattle.ref_store.specs.inside.Places.{place_of_name}
 use Rattle.ref_store.proofs.Answered.{at_err}
 use Rattle.ref_store.proofs.Places.{found, one_set, count_set}
 use Rattle.ref_store.proofs.table.RefTable.set.Goals as goal

@@ -1,0 +1,5 @@
+use Rattle.std.proofs.Common.{refl}
+use Rattle.blake3_lanes.proofs.eight.kernel.start_values.Goals as goal
+
+pub returns : goal.returns
+returns c j h = rw (c.splat.ensures j h, c.splat-2.ensures j h, c.splat-3.ensures j h, c.splat-4.ensures j h, c.splat-5.ensures j h, c.splat-6.ensures j h, c.splat-7.ensures j h, c.splat-8.ensures j h) refl

@@ -1,0 +1,4 @@
+// The same with vectors of eight words, for processors that have them.
+pub(crate) mod chunks;
+mod kernel;
+mod vectors;

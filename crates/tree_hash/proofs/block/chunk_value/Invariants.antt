@@ -1,6 +1,0 @@
-use Rattle.std.proofs.Common.{◌≡◌}
-use Rattle.tree_hash.specs.TreeHash.{chunk_after}
-use Rattle.tree_hash.proofs.block.chunk_value.Given as goal
-
-abbrev pub invariant-loop-k : goal.invariant-loop-k
-invariant-loop-k l = l.h ≡ chunk_after l.chunk l.number l.k
