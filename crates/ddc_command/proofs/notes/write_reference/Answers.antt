@@ -1,7 +1,8 @@
 use Rattle.std.proofs.Common.{List, ℕ, ◌++◌, codes, Result, Ok, ◌∙◌, subst}
 use Rattle.ddc_names.specs.declared.Failed.{Failed}
 use Rattle.ddc_names.specs.Names.{key_text}
-use Rattle.ddc_command.specs.Top.{NotesAs}
+use Rattle.ddc_service.specs.Effects.{effect}
+use Rattle.ddc_command.specs.inside.Noting.{NotesAs}
 use Rattle.ddc_command.proofs.Noting.{notes_then}
 use Rattle.ddc_command.proofs.notes.write_reference.Goals as goal
 
@@ -14,10 +15,10 @@ returns-in-Ok g c =
     let mid = c.write_four.new.notes in
     let new = c.write_note.new.notes in
     let ok : Result (Unit {0}) Failed = Ok tt in
-    let P : List ℕ → Type 0 = λ t. NotesAs (g.N.Sink.written old) (g.N.Sink.written mid) (g.N.Sink.faults old) (g.N.Sink.faults mid) ((t ++ codes "/") ++ (c.as_bytes-2.result.now ++ codes "/")) ok in
-    let Q : List ℕ → Type 0 = λ t. NotesAs (g.N.Sink.written old) (g.N.Sink.written mid) (g.N.Sink.faults old) (g.N.Sink.faults mid) ((name.space ++ codes "/") ++ (t ++ codes "/")) ok in
-    let R : List ℕ → Type 0 = λ t. NotesAs (g.N.Sink.written mid) (g.N.Sink.written new) (g.N.Sink.faults mid) (g.N.Sink.faults new) t c.write_note.result in
+    let P : List ℕ → Type 0 = λ t. NotesAs (effect g.N.Sink.written g.N.Sink.faults old mid) ((t ++ codes "/") ++ (c.as_bytes-2.result.now ++ codes "/")) ok in
+    let Q : List ℕ → Type 0 = λ t. NotesAs (effect g.N.Sink.written g.N.Sink.faults old mid) ((name.space ++ codes "/") ++ (t ++ codes "/")) ok in
+    let R : List ℕ → Type 0 = λ t. NotesAs (effect g.N.Sink.written g.N.Sink.faults mid new) t c.write_note.result in
     record {
-      gives = notes_then (g.N.Sink.written old) (g.N.Sink.written mid) (g.N.Sink.written new) (g.N.Sink.faults old) (g.N.Sink.faults mid) (g.N.Sink.faults new)
+      gives = notes_then g.N.Sink.written g.N.Sink.faults old mid new
           ((name.space ++ codes "/") ++ (name.spot.bucket ++ codes "/")) (key_text name.spot.key) c.write_note.result (subst Q bucket (subst P space c.in-Ok.ensures.gives)) (subst R c.text.ensures c.write_note.ensures.gives);
     }
