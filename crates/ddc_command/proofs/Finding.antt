@@ -70,7 +70,7 @@ module _ {D : Type 0} (tells : Bool) (meaning : D → Meaning) (old : Devices D)
   fails_unopened new fault off back is cause = record {
     ends = λ bytes faults space ttl pin words hour source still form. (
       some_command (command_of words) (Init space ttl pin) form,
-      (still, refl),
+      (still, (refl, refl)),
       back,
       unopens (scene tells meaning old new hour source (untouched bytes faults)) (command_of words) fault is cause (λ e. absurd (not_unmade fault off e)),
     );
@@ -129,7 +129,7 @@ module _ {D : Type 0} (tells : Bool) (meaning : D → Meaning) (old : Devices D)
         ttl,
         pin,
         form,
-        (still, refl),
+        (still, (refl, refl)),
         unmade,
         creates_from new creates,
         ⊎_elim (λ failed. inl (failed.0, rose_later (devices_faults meaning old) (devices_faults meaning mid) (devices_faults meaning new) back.later failed.1)) (λ memory. inr memory) cause,

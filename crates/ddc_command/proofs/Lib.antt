@@ -1,5 +1,4 @@
 pub mod Noting
-pub mod Numbers
 pub mod Statuses
 pub mod Unopened
 pub mod Replaying

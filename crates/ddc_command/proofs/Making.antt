@@ -22,7 +22,7 @@ use Rattle.ddc_model.specs.History.{Past, broken_by, past_of, WithRoom}
 use Rattle.ddc_book.specs.Calls.{Gives, GoesOn, Becomes}
 use Rattle.ddc_book.specs.Opening.{Opens}
 use Rattle.ddc_book.specs.View.{BookView, limits_of, line_of, faults_of}
-use Rattle.ddc_service.specs.Effects.{Effect, Bytes, Rises}
+use Rattle.ddc_service.specs.Effects.{Effect, Bytes, Rises, MeetsNoFault, IsUntouched}
 use Rattle.ddc_service.proofs.Writing.{rose_later}
 use Rattle.ddc_command.specs.declared.end.CommandEnd.TheVariants.{Unmade, Made, Untold}
 use Rattle.ddc_command.specs.Ends.{Scene, scene, IsEmptyUnmade, AsksSpace, MakesSpace, LeavesAfter, LacksSpace, made_line}
@@ -77,7 +77,7 @@ module _ {D : Type 0} (tells : Bool) (meaning : D → Meaning) (old : Devices D)
         ttl,
         pin,
         form,
-        (still, refl),
+        (still, (refl, refl)),
         start,
         (found.held, λ starts. subst P (sym same) (opening None starts), λ starts im is. let Q : Limits → Type 0 = λ l. Opens l im start in subst Q found.limits_are (closes starts.0 unbroken im is)),
       )
@@ -117,14 +117,14 @@ module _ {D : Type 0} (tells : Bool) (meaning : D → Meaning) (old : Devices D)
       abbrev Answer : Result (Unit {0}) StoreFault → Type 0
       Answer result = Gives book [] next (WithRoom start.index (past_of book.steps) (SpaceAs start.index space ttl pin)) result
 
-      makes : (hour : Option ℕ) (source : Effect Bytes) → source.after ≡ source.before → Closes next.devices → Answer (Ok tt) → MakesSpace (here hour source) space ttl pin
+      makes : (hour : Option ℕ) (source : Effect Bytes) → IsUntouched source → Closes next.devices → Answer (Ok tt) → MakesSpace (here hour source) space ttl pin
       makes hour source still closes (_, made, answers, becomes) =
           let answered = space_as (Ok tt) made answers in
           let is = becomes_cache book next made becomes in
           (still, start, made, asks hour source (Ok tt) made answered is, leaves hour source made closes (becomes_unbroken book next made unbroken becomes) is (inr (space_made start.index space ttl pin made answered)))
 
-      made_next : Closes next.devices → Answer (Ok tt) → Appends sink.before sink.after (made_line space ttl pin) → EndsInit tells meaning old next.devices sink space ttl pin Made
-      made_next closes answer told words hour source still form = (space, ttl, pin, form, makes hour source still closes answer, told)
+      made_next : Closes next.devices → Answer (Ok tt) → Appends sink.before sink.after (made_line space ttl pin) → MeetsNoFault sink → EndsInit tells meaning old next.devices sink space ttl pin Made
+      made_next closes answer told same words hour source still form = (space, ttl, pin, form, makes hour source still closes answer, told, same)
 
       untold_next : Closes next.devices → Answer (Ok tt) → AppendsFront sink.before sink.after (made_line space ttl pin) → Rises sink → EndsInit tells meaning old next.devices sink space ttl pin Untold
       untold_next closes answer told rose words hour source still form = (space, ttl, pin, form, makes hour source still closes answer, told, rose)
@@ -156,20 +156,20 @@ module _ {D : Type 0} (tells : Bool) (meaning : D → Meaning) (old : Devices D)
       )
       lacks hour source (faults.Damaged name hash) closes (_, made, answers, becomes) cause = cc (never (faults.Damaged name hash) made answers).2
 
-      unmade_next : (fault : StoreFault) → sink.after ≡ sink.before → Closes next.devices → Answer (Err fault) → (fault ≡ faults.DiskFailed → Rose (faults_of meaning book) (faults_of meaning next)) → EndsInit tells meaning old next.devices sink space ttl pin (Unmade fault)
+      unmade_next : (fault : StoreFault) → IsUntouched sink → Closes next.devices → Answer (Err fault) → (fault ≡ faults.DiskFailed → Rose (faults_of meaning book) (faults_of meaning next)) → EndsInit tells meaning old next.devices sink space ttl pin (Unmade fault)
       unmade_next fault quiet closes answer cause words hour source still form = (space, ttl, pin, form, (still, quiet), start, lacks hour source fault closes answer cause)
 
-      pub makes_space : (new : Devices D) → new ≡ next.devices → Closes new → Answer (Ok tt) → Appends sink.before sink.after (made_line space ttl pin) → EndsInit tells meaning old new sink space ttl pin Made
-      makes_space new same closes answer told =
+      pub makes_space : (new : Devices D) → new ≡ next.devices → Closes new → Answer (Ok tt) → Appends sink.before sink.after (made_line space ttl pin) → MeetsNoFault sink → EndsInit tells meaning old new sink space ttl pin Made
+      makes_space new same closes answer told still =
           let P : Devices D → Type 0 = λ d. Closes d → EndsInit tells meaning old d sink space ttl pin Made in
-          subst P (sym same) (λ c. made_next c answer told) closes
+          subst P (sym same) (λ c. made_next c answer told still) closes
 
       pub makes_untold : (new : Devices D) → new ≡ next.devices → Closes new → Answer (Ok tt) → AppendsFront sink.before sink.after (made_line space ttl pin) → Rises sink → EndsInit tells meaning old new sink space ttl pin Untold
       makes_untold new same closes answer told rose =
           let P : Devices D → Type 0 = λ d. Closes d → EndsInit tells meaning old d sink space ttl pin Untold in
           subst P (sym same) (λ c. untold_next c answer told rose) closes
 
-      pub refuses_space : (fault : StoreFault) → sink.after ≡ sink.before → (new : Devices D) → new ≡ next.devices → Closes new → Answer (Err fault) → (fault ≡ faults.DiskFailed → Rose (faults_of meaning book) (faults_of meaning next)) → EndsInit tells meaning old new sink space ttl pin (Unmade fault)
+      pub refuses_space : (fault : StoreFault) → IsUntouched sink → (new : Devices D) → new ≡ next.devices → Closes new → Answer (Err fault) → (fault ≡ faults.DiskFailed → Rose (faults_of meaning book) (faults_of meaning next)) → EndsInit tells meaning old new sink space ttl pin (Unmade fault)
       refuses_space fault quiet new same closes answer cause =
           let P : Devices D → Type 0 = λ d. Closes d → EndsInit tells meaning old d sink space ttl pin (Unmade fault) in
           subst P (sym same) (λ c. unmade_next fault quiet c answer cause) closes

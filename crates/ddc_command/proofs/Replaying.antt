@@ -16,9 +16,9 @@ use Rattle.ddc_book.specs.View.{BookView, limits_of, line_of, faults_of}
 use Rattle.ddc_model.specs.Sound.{Cache}
 use Rattle.ddc_service.specs.declared.session.SessionEnd.{SessionEnd}
 use Rattle.ddc_service.specs.declared.session.SessionEnd.TheVariants.{Closed, Unread, Cut, Spent, ReadFailed, WriteFailed, DiskFailed, Damaged, NoMemory}
-use Rattle.ddc_service.specs.Effects.{Effect, Bytes, effect}
+use Rattle.ddc_service.specs.Effects.{Effect, Bytes, effect, IsUntouched}
 use Rattle.ddc_service.specs.Replies.{OpenStore, just_opened}
-use Rattle.ddc_service.specs.Session.{Session, session, store_of, OpensWithin, IsSession, HasRisen, Stops}
+use Rattle.ddc_service.specs.Session.{Session, session, store_of, OpensWithin, IsSession, CountsAs, Stops}
 use Rattle.ddc_service.proofs.Writing.{rose_later}
 use Rattle.ddc_service.proofs.Turning.{starts_nothing}
 use Rattle.ddc_command.specs.declared.command.Command.TheVariants.{Replay}
@@ -64,17 +64,17 @@ same_stops s before after line limits Damaged h = tt
 same_stops s before after line limits NoMemory h = tt
 
 -- a count that rose from the opening on rose from the start of the call on
-risen_later : (s : Session) (before : ℕ) (start : OpenStore) (end : SessionEnd) → before ≤ s.store.faults_before → HasRisen s end
-    → HasRisen (session s.hour s.source s.sink (record { before = start; after = s.store.after; faults_before = before; faults_after = s.store.faults_after })) end
-risen_later s before start Closed later h = tt
-risen_later s before start (Unread at) later h = tt
-risen_later s before start (Cut at) later h = tt
-risen_later s before start (Spent at) later h = tt
-risen_later s before start ReadFailed later h = h
-risen_later s before start WriteFailed later h = h
-risen_later s before start DiskFailed later h = rose_later before s.store.faults_before s.store.faults_after later h
-risen_later s before start Damaged later h = tt
-risen_later s before start NoMemory later h = tt
+counts_later : (s : Session) (before : ℕ) (start : OpenStore) (end : SessionEnd) → before ≤ s.store.faults_before → CountsAs s end
+    → CountsAs (session s.hour s.source s.sink (record { before = start; after = s.store.after; faults_before = before; faults_after = s.store.faults_after })) end
+counts_later s before start Closed later h = h
+counts_later s before start (Unread at) later h = h
+counts_later s before start (Cut at) later h = h
+counts_later s before start (Spent at) later h = h
+counts_later s before start ReadFailed later h = h
+counts_later s before start WriteFailed later h = h
+counts_later s before start DiskFailed later (same, rose) = (same, rose_later before s.store.faults_before s.store.faults_after later rose)
+counts_later s before start Damaged later h = h
+counts_later s before start NoMemory later h = h
 
 module _ {D : Type 0} (tells : Bool) (meaning : D → Meaning) (old : Devices D) (book next : BookView D) (hour : Option ℕ) (source sink : Effect Bytes) (end : SessionEnd) where
   abbrev ran : Session
@@ -82,7 +82,7 @@ module _ {D : Type 0} (tells : Bool) (meaning : D → Meaning) (old : Devices D)
 
   module _ (loaded : IsLoaded meaning old standard book) (serves : IsSession ran end)
       (runs : IsTrue tells → EachImage (line_of meaning book) (λ im. Opens (limits_of book) im book.cache) → EachSince (line_of meaning book) (line_of meaning next) (OpensWithin hour source.before (store_of book) (limits_of book)))
-      (stops : IsTrue tells → Stops ran (line_of meaning next) (limits_of book) end) (limits : limits_of next ≡ limits_of book) (unbroken : end ≢ DiskFailed → broken_by next.steps ≡ None) (risen : HasRisen ran end) where
+      (stops : IsTrue tells → Stops ran (line_of meaning next) (limits_of book) end) (limits : limits_of next ≡ limits_of book) (unbroken : end ≢ DiskFailed → broken_by next.steps ≡ None) (counts : CountsAs ran end) where
     abbrev scene_at : Devices D → Scene D
     scene_at new = scene tells meaning old new hour source sink
 
@@ -136,7 +136,7 @@ module _ {D : Type 0} (tells : Bool) (meaning : D → Meaning) (old : Devices D)
       record {
         opened = (loaded.held, loaded.whole);
         serves = session_here;
-        cause = risen_later ran (devices_faults meaning old) start end loaded.as_before.later risen;
+        counts = counts_later ran (devices_faults meaning old) start end loaded.as_before.later counts;
         any_moment = any_moment;
         leaves = λ opens ok im is. let R : Limits → Type 0 = λ l. Opens l im next.cache in subst R (limits ∙ loaded.limits_are) (closed opens.0 (unbroken ok) im is);
         stops = λ opens. stops_here opens.0;
@@ -147,7 +147,7 @@ module _ {D : Type 0} (tells : Bool) (meaning : D → Meaning) (old : Devices D)
     replays new same closed = let P : Devices D → Type 0 = λ d. Closes d → EndsFor (scene_at d) Replay (Replayed end) in subst P (sym same) ends_next closed
 
 -- the store can't be opened
-pub replay_unopened : {D : Type 0} (s : Scene D) (limits : Limits) → limits ≡ standard → s.source.after ≡ s.source.before → s.sink.after ≡ s.sink.before → (fault : OpenFault) → AsBefore s.meaning s.old s.new
+pub replay_unopened : {D : Type 0} (s : Scene D) (limits : Limits) → limits ≡ standard → IsUntouched s.source → IsUntouched s.sink → (fault : OpenFault) → AsBefore s.meaning s.old s.new
     → ((fault ≡ open_faults.DiskFailed) × DevicesRose s) ⊎ FirstHeld s (λ file. OpenFaultOf limits file fault) → (fault ≡ open_faults.DiskFailed → DevicesRose s) → EndsFor s Replay (Unopened fault)
 replay_unopened s limits are still quiet fault back is cause words form =
     let P : Limits → Type 0 = λ l. ((fault ≡ open_faults.DiskFailed) × DevicesRose s) ⊎ FirstHeld s (λ file. OpenFaultOf l file fault) in

@@ -21,9 +21,9 @@ use Rattle.ddc_book.specs.declared.fault.OpenFault.TheVariants.{NotMade}
 use Rattle.ddc_book.specs.declared.fault.OpenFault.TheVariants as open_faults
 use Rattle.ddc_service.specs.declared.session.SessionEnd.{SessionEnd}
 use Rattle.ddc_service.specs.declared.session.SessionEnd.TheVariants.{DiskFailed}
-use Rattle.ddc_service.specs.Effects.{Effect, Bytes, Rises}
+use Rattle.ddc_service.specs.Effects.{Effect, Bytes, Rises, MeetsNoFault, IsUntouched}
 use Rattle.ddc_service.specs.Replies.{OpenStore, just_opened}
-use Rattle.ddc_service.specs.Session.{Session, session, OpensWithin, IsSession, HasRisen, Stops}
+use Rattle.ddc_service.specs.Session.{Session, session, OpensWithin, IsSession, CountsAs, Stops}
 use Rattle.ddc_command.specs.declared.command.Command.{Command}
 use Rattle.ddc_command.specs.declared.command.Command.TheVariants.{Replay, Init}
 use Rattle.ddc_command.specs.declared.end.CommandEnd.{CommandEnd}
@@ -84,13 +84,9 @@ OpensTo s cache = IsTrue s.tells × EachImage (line_before s) (λ im. Opens stan
 abbrev pub StartsFrom : {D : Type 0} → Scene D → Cache → Type 0
 StartsFrom s cache = IsTrue s.tells × EachImage (line_before s) (λ im. Opens standard im cache ⊎ IsEmptyUnmade cache im)
 
--- nothing was taken from the source
-abbrev pub TakesNothing : {D : Type 0} → Scene D → Type 0
-TakesNothing s = s.source.after ≡ s.source.before
-
--- nor written to the sink
+-- nothing was taken from the source, nor written to the sink
 abbrev pub IsQuiet : {D : Type 0} → Scene D → Type 0
-IsQuiet s = TakesNothing s × (s.sink.after ≡ s.sink.before)
+IsQuiet s = IsUntouched s.source × IsUntouched s.sink
 
 -- ---- a store that isn't opened
 
@@ -113,7 +109,7 @@ session_in s start final = session s.hour s.source s.sink (on_devices s (just_op
 pub record Replays {D : Type 0} (s : Scene D) (start : Cache) (final : OpenStore) (end : SessionEnd) : Type 0 where
   pub opened : HeldStore s start
   pub serves : IsSession (session_in s start final) end
-  pub cause : HasRisen (session_in s start final) end
+  pub counts : CountsAs (session_in s start final) end
   pub any_moment : OpensTo s start → EachSince (line_before s) (line_now s) (OpensWithin s.hour s.source.before (just_opened start) standard)
   pub leaves : OpensTo s start → end ≢ DiskFailed → EachImage (line_now s) (λ im. Opens standard im final.cache)
   pub stops : OpensTo s start → Stops (session_in s start final) (line_now s) standard end
@@ -137,7 +133,7 @@ pub record AsksSpace {D : Type 0} (s : Scene D) (space : List ℕ) (ttl pin : �
 
 -- it is made
 abbrev pub MakesSpace : {D : Type 0} → Scene D → List ℕ → ℕ → ℕ → Type 0
-MakesSpace s space ttl pin = TakesNothing s × (start : Cache) × (made : Option Entry) × AsksSpace s space ttl pin start (Ok tt) made × LeavesAfter s start made
+MakesSpace s space ttl pin = IsUntouched s.source × (start : Cache) × (made : Option Entry) × AsksSpace s space ttl pin start (Ok tt) made × LeavesAfter s start made
 
 -- why it isn't made
 abbrev pub LacksSpace : {D : Type 0} → Scene D → List ℕ → ℕ → ℕ → Cache → StoreFault → Type 0
@@ -165,9 +161,9 @@ Ends s words (Uncreated fault) =
     AsInit words (λ space ttl pin. IsQuiet s × FirstHeld s (λ file. is_made file ≡ false) × Creates s.meaning s.old standard s.new
     × (((fault ≡ open_faults.DiskFailed) × DevicesRose s) ⊎ (fault ≡ open_faults.NoMemory)))
 Ends s words (Unmade fault) = AsInit words (λ space ttl pin. IsQuiet s × (start : Cache) × LacksSpace s space ttl pin start fault)
-Ends s words Made = AsInit words (λ space ttl pin. MakesSpace s space ttl pin × Appends s.sink.before s.sink.after (made_line space ttl pin))
+Ends s words Made = AsInit words (λ space ttl pin. MakesSpace s space ttl pin × Appends s.sink.before s.sink.after (made_line space ttl pin) × MeetsNoFault s.sink)
 Ends s words Untold = AsInit words (λ space ttl pin. MakesSpace s space ttl pin × AppendsFront s.sink.before s.sink.after (made_line space ttl pin) × Rises s.sink)
 
 -- the whole note was written, or a front of it where the count of faults rose
 abbrev pub Noted : Effect Bytes → List ℕ → Type 0
-Noted notes note = Appends notes.before notes.after note ⊎ (AppendsFront notes.before notes.after note × Rises notes)
+Noted notes note = (Appends notes.before notes.after note × MeetsNoFault notes) ⊎ (AppendsFront notes.before notes.after note × Rises notes)

@@ -12,13 +12,9 @@ use Rattle.ddc_command.specs.declared.command.Command.TheVariants.{Replay, Init}
 abbrev pub is_word : String Global → List ℕ → Bool
 is_word word text = pointwise nat_eq (string_bytes word) text
 
--- 1 to 10 digits
-abbrev pub are_digits : List ℕ → Bool
-are_digits text = nat_le 1 (length text) && nat_le (length text) 10 && all_ascii_digits text
-
 -- a number of hours: 1 to 10 digits that write 1 to 1,000,000
 abbrev pub are_hours : List ℕ → Bool
-are_hours text = are_digits text && is_time (digits_value 10 text)
+are_hours text = nat_le 1 (length text) && nat_le (length text) 10 && all_ascii_digits text && is_time (digits_value 10 text)
 
 -- a namespace and its times
 abbrev pub init_where : Option ℕ → Bool → List ℕ → List ℕ → List ℕ → Option Command

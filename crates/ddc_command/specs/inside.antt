@@ -1,3 +1,3 @@
-pub mod Numbers
+pub mod Times
 pub mod Noting
 pub mod Parts

@@ -45,11 +45,7 @@ fn empty(alloc: Global) -> Devices<MemDisk> {
 
 fn source_of(alloc: Global, input: &[u8]) -> Result<MemSource, NoMemory> {
     let bytes = Vec::from_slice(alloc, input)?;
-    Ok(MemSource::new(
-        Rows::of_vec(bytes),
-        Rows::new(alloc),
-        Rows::new(alloc),
-    ))
+    Ok(MemSource::new(Rows::of_vec(bytes), Rows::new(alloc), Rows::new(alloc)))
 }
 
 // Runs a command: its status, what it wrote, and the devices.

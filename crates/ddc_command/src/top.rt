@@ -8,7 +8,7 @@ ghost use Rattle.ddc_command.specs.declared.command.Command.TheVariants.{Replay}
 ghost use Rattle.ddc_command.specs.Words.{command_of};
 ghost use Rattle.ddc_command.specs.Notes.{note_of, status_of};
 ghost use Rattle.ddc_command.specs.Ends.{Ends, Noted, made_line, scene};
-ghost use Rattle.ddc_command.specs.inside.Numbers.{AreTimes};
+ghost use Rattle.ddc_command.specs.inside.Times.{AreTimes};
 ghost use Rattle.ddc_command.specs.inside.Parts.{EndsFor, EndsInit, FailsToOpen, OpensOrMakes, is_unmade};
 
 use crate::command::Command;

@@ -3,34 +3,18 @@ ghost use Rattle.std.specs.Prelude.{◌≡◌, ◌&&◌, IfSome, is_some, true};
 ghost use Rattle.ddc_names.specs.Texts.{name_fault};
 ghost use Rattle.ddc_model.specs.Entries.{is_time};
 ghost use Rattle.ddc_command.specs.Words.{are_hours, command_of, init_where};
-ghost use Rattle.ddc_command.specs.inside.Numbers.{AreTimes, hours, short_number};
+ghost use Rattle.ddc_command.specs.inside.Times.{AreTimes, hours};
 
 use crate::command::{Command, Places};
 use ddc_names::Namespace;
-
-// The number that 1 to 10 digits write.
-fn short_number(text: &[u8]) -> Option<u64>
-    ensures { result ≡ short_number text.now }
-{
-    if text.is_empty() || text.len() > 10 {
-        return None;
-    }
-    let mut value: u64 = 0;
-    for digit in text {
-        if !digit.is_ascii_digit() {
-            return None;
-        }
-        value = value * 10 + (*digit - b'0') as u64;
-    }
-    Some(value)
-}
+use ddc_protocol::decimal_value;
 
 // A number of hours: 1 to 1,000,000.
 fn hours(text: &[u8]) -> Option<u32>
     ensures hours { result ≡ hours text.now }
     ensures time { IfSome result (λ hours. is_time hours ≡ true) }
 {
-    match short_number(text) {
+    match decimal_value(text, 10) {
         Some(value) => {
             if value >= 1 && value <= 1_000_000 {
                 Some(value as u32)

@@ -1,5 +1,5 @@
 -- What comes of a request, by what the book's call gives and by how the reply was written.
-use Rattle.std.proofs.Common.{◌≡◌, ◌⊎◌, ℕ, List, [], ◌∷◌, ◌++◌, Bool, true, false, Option, Some, None, Result, Ok, Err, refl, sym, ap, ◌∙◌, subst, inl, inr}
+use Rattle.std.proofs.Common.{◌≡◌, ◌⊎◌, ℕ, ◌≤◌, List, [], ◌∷◌, ◌++◌, Bool, true, false, Option, Some, None, Result, Ok, Err, refl, sym, ap, ◌∙◌, subst, inl, inr, arith}
 use Rattle.std.specs.Prelude.{if◌then◌else◌}
 use Rattle.std.specs.FinMap.{get}
 use Rattle.ddc_names.specs.declared.hash.IoHash.{IoHash}
@@ -24,15 +24,15 @@ use Rattle.ddc_book.specs.declared.reads.Opened.{Opened}
 use Rattle.ddc_book.specs.declared.reads.Opened.TheVariants.{Whole}
 use Rattle.ddc_book.specs.View.{BookView, limits_of, faults_of}
 use Rattle.ddc_book.specs.Calls.{Becomes, Makes, Breaks, Gives, GoesOn, got, whole}
-use Rattle.ddc_protocol.specs.Requests.{Item, get_blob}
+use Rattle.ddc_protocol.specs.Requests.{Item}
 use Rattle.ddc_http.specs.declared.reply.WriteFault.{WriteFault}
 use Rattle.ddc_http.specs.declared.reply.WriteFault.TheVariants.{Failed, NoMemory}
 use Rattle.ddc_service.specs.declared.session.SessionEnd.TheVariants as ends
 use Rattle.ddc_service.specs.declared.session.Turn.TheVariants.{Over}
-use Rattle.ddc_service.specs.Effects.{Effect, Bytes, Rises}
-use Rattle.ddc_service.specs.Replies.{OpenStore, store_after, past_with, says_damaged, IsReplyBy, IsReply, IsChangeBy, IsChange, fetch_reply, failed_reply}
+use Rattle.ddc_service.specs.Effects.{Effect, Bytes}
+use Rattle.ddc_service.specs.Replies.{OpenStore, store_after, says_damaged, ItemCommand, OnlyAnswers, item_command, IsReply, failed_reply}
 use Rattle.ddc_service.specs.Session.{store_of}
-use Rattle.ddc_service.specs.inside.Writes.{WritesAs, RequestEnds, AnswersRequest, written_turn, damaged_turn, turn_of}
+use Rattle.ddc_service.specs.inside.Writes.{WritesAs, RequestEnds, AnswersRequest, SinkCounts, written_turn, damaged_turn, turn_of}
 use Rattle.ddc_book.proofs.Kept.{after_limits}
 use Rattle.ddc_book.proofs.Steps.{past_more}
 use Rattle.ddc_service.proofs.Writing.{whole_front, no_text}
@@ -55,21 +55,27 @@ store_is : (cache other : Cache) (past later : Past) → cache ≡ other → pas
 store_is cache other past later e f = ap (λ (c : Cache). let s : OpenStore = record { cache = c; past = past } in s) e ∙ ap (λ (p : Past). let s : OpenStore = record { cache = other; past = p } in s) f
 
 module _ (sink : Effect Bytes) (text : List ℕ) where
-  written_rises : (written : Result (Unit {0}) WriteFault) → WritesAs sink text written → written_turn written ≡ Over ends.WriteFailed → Rises sink
-  written_rises (Ok u) w e = absurd (cc)
-  written_rises (Err Failed) w e = w.wrote.1
-  written_rises (Err NoMemory) w e = absurd (cc)
+  written_counts : (written : Result (Unit {0}) WriteFault) → WritesAs sink text written → SinkCounts sink (written_turn written)
+  written_counts (Ok u) (wrote, same) = same
+  written_counts (Err Failed) (wrote, later, rose) = (later, rose)
+  written_counts (Err NoMemory) (kept, same) = same
 
-  damaged_rises : (written : Result (Unit {0}) WriteFault) → WritesAs sink text written → damaged_turn written ≡ Over ends.WriteFailed → Rises sink
-  damaged_rises (Ok u) w e = absurd (cc)
-  damaged_rises (Err Failed) w e = w.wrote.1
-  damaged_rises (Err NoMemory) w e = absurd (cc)
+  -- the count never falls
+  later_count : (written : Result (Unit {0}) WriteFault) → WritesAs sink text written → sink.faults_before ≤ sink.faults_after
+  later_count (Ok u) (wrote, same) = omega (arith, same)
+  later_count (Err Failed) (wrote, later, rose) = later
+  later_count (Err NoMemory) (kept, same) = omega (arith, same)
+
+  damaged_counts : (written : Result (Unit {0}) WriteFault) → WritesAs sink text written → SinkCounts sink (damaged_turn written)
+  damaged_counts (Ok u) w = later_count (Ok u) w
+  damaged_counts (Err Failed) (wrote, later, rose) = (later, rose)
+  damaged_counts (Err NoMemory) w = later_count (Err NoMemory) w
 
   -- whatever became of the writing, a front was written
   any_front : (written : Result (Unit {0}) WriteFault) → WritesAs sink text written → AppendsFront sink.before sink.after text
-  any_front (Ok u) w = whole_front sink.before sink.after text w.wrote
-  any_front (Err Failed) w = w.wrote.0
-  any_front (Err NoMemory) w = no_text sink.before sink.after text w.wrote
+  any_front (Ok u) w = whole_front sink.before sink.after text w.0
+  any_front (Err Failed) w = w.0
+  any_front (Err NoMemory) w = no_text sink.before sink.after text w.0
 
 written_goes_on : (written : Result (Unit {0}) WriteFault) → written_turn written ≡ Over ends.DiskFailed → ⊥
 written_goes_on (Ok u) e = cc
@@ -102,60 +108,57 @@ module _ {D : Type 0} (tells : Bool) (meaning : D → Meaning) (sink : Effect By
   becomes_unbroken bytes None is = ap (λ (b : BookView D). broken_by b.steps) is ∙ unbroken
   becomes_unbroken bytes (Some entry) (cache, steps) = ap broken_by steps ∙ broken_more book.steps entry ∙ unbroken
 
-  -- by how the command reads for the item
-  module _ {A : Type 0} (item : Item) (bytes : List ℕ) (Command : Result A StoreFault → Option Entry → Type 0) (reply : Result A StoreFault → List ℕ)
-      (gives : (damaged : Bool) (text : List ℕ) (after : OpenStore) → IsReplyBy damaged store bytes Command reply text after → IsReply damaged close hour store item text after)
-      (changes : (after : OpenStore) → IsChangeBy store bytes Command after → IsChange hour store item after) where
-    made : (answer : Result A StoreFault) → Makes book bytes next Command answer → IsReply (says_damaged answer) close hour store item (reply answer) left
-    made answer (_, entry, given, becomes) = gives (says_damaged answer) (reply answer) left (answer, entry, given, refl, becomes_store bytes entry becomes, refl)
+  module _ (item : Item) where
+    abbrev c : ItemCommand
+    c = item_command hour store item
 
-    fine_turned : (answer : Result A StoreFault) (written : Result (Unit {0}) WriteFault) → IsReply false close hour store item (reply answer) left → WritesAs sink (reply answer) written
+    made : (answer : Result c.Value StoreFault) → Makes book c.bytes next c.Command answer → IsReply (says_damaged answer) close hour store item (c.reply close answer) left
+    made answer (_, entry, given, becomes) = (answer, entry, given, refl, becomes_store c.bytes entry becomes, refl)
+
+    fine_turned : (answer : Result c.Value StoreFault) (written : Result (Unit {0}) WriteFault) → IsReply false close hour store item (c.reply close answer) left → WritesAs sink (c.reply close answer) written
         → RequestEnds sink close hour store item left (written_turn written)
-    fine_turned answer (Ok u) is w = (reply answer, is, w.wrote)
-    fine_turned answer (Err Failed) is w = (false, reply answer, is, w.wrote.0)
-    fine_turned answer (Err NoMemory) is w = (w.wrote, inr (reply answer, is))
+    fine_turned answer (Ok u) is w = (c.reply close answer, is, w.0)
+    fine_turned answer (Err Failed) is w = (false, c.reply close answer, is, w.0)
+    fine_turned answer (Err NoMemory) is w = (w.0, inr (c.reply close answer, is))
 
-    fine : (answer : Result A StoreFault) (written : Result (Unit {0}) WriteFault) → says_damaged answer ≡ false → Makes book bytes next Command answer → WritesAs sink (reply answer) written
+    fine : (answer : Result c.Value StoreFault) (written : Result (Unit {0}) WriteFault) → says_damaged answer ≡ false → Makes book c.bytes next c.Command answer → WritesAs sink (c.reply close answer) written
         → AnswersRequest tells meaning sink close hour book item next (written_turn written)
     fine answer written sound (ready, entry, given, becomes) w = record {
-      turned = fine_turned answer written (subst (λ (d : Bool). IsReply d close hour store item (reply answer) left) sound (made answer (ready, entry, given, becomes))) w;
+      turned = fine_turned answer written (subst (λ (d : Bool). IsReply d close hour store item (c.reply close answer) left) sound (made answer (ready, entry, given, becomes))) w;
       devices = devices;
-      limits = becomes_limits bytes entry becomes;
-      unbroken = λ _. becomes_unbroken bytes entry becomes;
-      later = w.later;
-      write = written_rises sink (reply answer) written w;
+      limits = becomes_limits c.bytes entry becomes;
+      unbroken = λ _. becomes_unbroken c.bytes entry becomes;
+      counts = written_counts sink (c.reply close answer) written w;
       disk = λ e. absurd (written_goes_on written e);
     }
 
-    damaged_turned : (answer : Result A StoreFault) (written : Result (Unit {0}) WriteFault) → IsReply true close hour store item (reply answer) left → WritesAs sink (reply answer) written
+    damaged_turned : (answer : Result c.Value StoreFault) (written : Result (Unit {0}) WriteFault) → IsReply true close hour store item (c.reply close answer) left → WritesAs sink (c.reply close answer) written
         → RequestEnds sink close hour store item left (damaged_turn written)
-    damaged_turned answer (Ok u) is w = (reply answer, is, whole_front sink.before sink.after (reply answer) w.wrote)
-    damaged_turned answer (Err Failed) is w = (true, reply answer, is, w.wrote.0)
-    damaged_turned answer (Err NoMemory) is w = (reply answer, is, no_text sink.before sink.after (reply answer) w.wrote)
+    damaged_turned answer (Ok u) is w = (c.reply close answer, is, whole_front sink.before sink.after (c.reply close answer) w.0)
+    damaged_turned answer (Err Failed) is w = (true, c.reply close answer, is, w.0)
+    damaged_turned answer (Err NoMemory) is w = (c.reply close answer, is, no_text sink.before sink.after (c.reply close answer) w.0)
 
-    damaged : (name found : IoHash) (written : Result (Unit {0}) WriteFault) → Makes book bytes next Command (Err (Damaged name found)) → WritesAs sink (reply (Err (Damaged name found))) written
+    damaged : (name found : IoHash) (written : Result (Unit {0}) WriteFault) → Makes book c.bytes next c.Command (Err (Damaged name found)) → WritesAs sink (c.reply close (Err (Damaged name found))) written
         → AnswersRequest tells meaning sink close hour book item next (damaged_turn written)
     damaged name found written (ready, entry, given, becomes) w = record {
       turned = damaged_turned (Err (Damaged name found)) written (made (Err (Damaged name found)) (ready, entry, given, becomes)) w;
       devices = devices;
-      limits = becomes_limits bytes entry becomes;
-      unbroken = λ _. becomes_unbroken bytes entry becomes;
-      later = w.later;
-      write = damaged_rises sink (reply (Err (Damaged name found))) written w;
+      limits = becomes_limits c.bytes entry becomes;
+      unbroken = λ _. becomes_unbroken c.bytes entry becomes;
+      counts = damaged_counts sink (c.reply close (Err (Damaged name found))) written w;
       disk = λ e. absurd (damaged_ends written e);
     }
 
-    breaks : (written : Result (Unit {0}) WriteFault) → reply (Err DiskFailed) ≡ failed_reply → Breaks book bytes next Command → Rose (faults_of meaning book) (faults_of meaning next) → WritesAs sink (reply (Err DiskFailed)) written
+    breaks : (written : Result (Unit {0}) WriteFault) → c.reply close (Err DiskFailed) ≡ failed_reply → Breaks book c.bytes next c.Command → Rose (faults_of meaning book) (faults_of meaning next) → WritesAs sink (c.reply close (Err DiskFailed)) written
         → AnswersRequest tells meaning sink close hour book item next (Over ends.DiskFailed)
     breaks written text (_, value, entry, count, risen, given, cache, steps) cause w =
-        let is : left ≡ store_after store bytes (Some entry) = store_is next.cache (changed book.cache bytes (Some entry)) (past_of next.steps) (one_entry_more (past_of book.steps) entry) cache (ap past_of steps ∙ past_more none_yet book.steps (Change entry ∷ Broke true count risen ∷ [])) in
+        let is : left ≡ store_after store c.bytes (Some entry) = store_is next.cache (changed book.cache c.bytes (Some entry)) (past_of next.steps) (one_entry_more (past_of book.steps) entry) cache (ap past_of steps ∙ past_more none_yet book.steps (Change entry ∷ Broke true count risen ∷ [])) in
         record {
-          turned = (changes left (value, entry, given, is), subst (AppendsFront sink.before sink.after) text (any_front sink (reply (Err DiskFailed)) written w));
+          turned = ((value, entry, given, is), subst (AppendsFront sink.before sink.after) text (any_front sink (c.reply close (Err DiskFailed)) written w));
           devices = devices;
           limits = ap (λ (c : Cache). c.index.limits) cache ∙ after_limits book.cache.index entry;
           unbroken = λ other. absurd (other refl);
-          later = w.later;
-          write = λ e. absurd (cc);
+          counts = later_count sink (c.reply close (Err DiskFailed)) written w;
           disk = λ _. cause;
         }
 
@@ -164,18 +167,17 @@ module _ {D : Type 0} (tells : Bool) (meaning : D → Meaning) (sink : Effect By
     starves text (Ok u) same none w = absurd (cc)
     starves text (Err Failed) same none w = absurd (cc)
     starves text (Err NoMemory) same none w = record {
-      turned = (w.wrote, inl (ap (λ (b : BookView D). store_of b) same));
+      turned = (w.0, inl (ap (λ (b : BookView D). store_of b) same));
       devices = devices;
       limits = ap (λ (b : BookView D). limits_of b) same;
       unbroken = λ _. ap (λ (b : BookView D). broken_by b.steps) same ∙ unbroken;
-      later = w.later;
-      write = λ e. absurd (cc);
+      counts = w.1;
       disk = λ e. absurd (cc);
     }
 
     -- whatever the book answered
-    pub answers : (answer : Result A StoreFault) (written : Result (Unit {0}) WriteFault) → reply (Err DiskFailed) ≡ failed_reply → Gives book bytes next Command answer
-        → (answer ≡ Err DiskFailed → Rose (faults_of meaning book) (faults_of meaning next)) → (answer ≡ Err faults.NoMemory → written ≡ Err NoMemory) → WritesAs sink (reply answer) written
+    pub answers : (answer : Result c.Value StoreFault) (written : Result (Unit {0}) WriteFault) → c.reply close (Err DiskFailed) ≡ failed_reply → Gives book c.bytes next c.Command answer
+        → (answer ≡ Err DiskFailed → Rose (faults_of meaning book) (faults_of meaning next)) → (answer ≡ Err faults.NoMemory → written ≡ Err NoMemory) → WritesAs sink (c.reply close answer) written
         → AnswersRequest tells meaning sink close hour book item next (turn_of answer written)
     answers (Ok value) written text given cause none w = fine (Ok value) written refl given w
     answers (Err (Broken count)) written text given cause none w = absurd (let was = given.0 in cc)
@@ -185,7 +187,7 @@ module _ {D : Type 0} (tells : Bool) (meaning : D → Meaning) (sink : Effect By
     answers (Err NotPending) written text given cause none w = fine (Err NotPending) written refl given w
     answers (Err (Full what limit)) written text given cause none w = fine (Err (Full what limit)) written refl given w
     answers (Err (HistoryFull entries links)) written text given cause none w = fine (Err (HistoryFull entries links)) written refl given w
-    answers (Err faults.NoMemory) written text given cause none w = starves (reply (Err faults.NoMemory)) written given.1 (none refl) w
+    answers (Err faults.NoMemory) written text given cause none w = starves (c.reply close (Err faults.NoMemory)) written given.1 (none refl) w
     answers (Err DiskFailed) written text given cause none w = breaks written text given (cause refl) w
     answers (Err (Damaged name found)) written text given cause none w = damaged name found written given w
 
@@ -240,12 +242,8 @@ of_space hash blob false = tt
 pub is_of_blobs : (cache : Cache) (space : List ℕ) (hash : IoHash) → IsOfBlobs (serve cache space hash)
 is_of_blobs cache space hash = of_space hash (get cache.bytes (blob_name space hash)) (has_space cache.index space)
 
--- what a look-up answers, as a command that makes nothing
-abbrev pub FetchAs : Result (List ℕ) StoreFault → Result (List ℕ) StoreFault → Option Entry → Type 0
-FetchAs served answer made = (answer ≡ served) × (made ≡ None)
-
 module _ {D : Type 0} (book next : BookView D) (unbroken : broken_by book.steps ≡ None) (same : next ≡ book) where
-  fetch_gives : (served : Result (List ℕ) StoreFault) → IsOfBlobs served → Gives book [] next (FetchAs served) served
+  fetch_gives : (served : Result (List ℕ) StoreFault) → IsOfBlobs served → Gives book [] next (OnlyAnswers served) served
   fetch_gives (Ok bytes) is = (unbroken, None, (refl, refl), same)
   fetch_gives (Err (Broken count)) is = absurd is
   fetch_gives (Err UnknownSpace) is = (unbroken, None, (refl, refl), same)
@@ -259,12 +257,12 @@ module _ {D : Type 0} (book next : BookView D) (unbroken : broken_by book.steps 
   fetch_gives (Err (Damaged name found)) is = (unbroken, None, (refl, refl), same)
 
   pub whole_gives : (space : List ℕ) (hash : IoHash) (answer : Result Opened StoreFault) → (answer ≡ Err faults.NoMemory) ⊎ (whole answer ≡ unless_broken book.steps (serve book.cache space hash))
-      → Gives book [] next (FetchAs (serve book.cache space hash)) (whole answer)
+      → Gives book [] next (OnlyAnswers (serve book.cache space hash)) (whole answer)
   whole_gives space hash answer given = elim given [
-    | inl e ↦ subst (λ (r : Result Opened StoreFault). Gives book [] next (FetchAs (serve book.cache space hash)) (whole r)) (sym e) (unbroken, same)
+    | inl e ↦ subst (λ (r : Result Opened StoreFault). Gives book [] next (OnlyAnswers (serve book.cache space hash)) (whole r)) (sym e) (unbroken, same)
     | inr e ↦
         let is : whole answer ≡ serve book.cache space hash = e ∙ ap (λ (b : Option ℕ). broken_or b (serve book.cache space hash)) unbroken in
-        subst (λ (r : Result (List ℕ) StoreFault). Gives book [] next (FetchAs (serve book.cache space hash)) r) (sym is) (fetch_gives (serve book.cache space hash) (is_of_blobs book.cache space hash))
+        subst (λ (r : Result (List ℕ) StoreFault). Gives book [] next (OnlyAnswers (serve book.cache space hash)) r) (sym is) (fetch_gives (serve book.cache space hash) (is_of_blobs book.cache space hash))
   ]
 
 pub whole_fault : (answer : Result Opened StoreFault) (fault : StoreFault) → whole answer ≡ Err fault → answer ≡ Err fault
@@ -286,18 +284,3 @@ whole_sure cache steps space hash answer unbroken given e = elim given [
   | inl none ↦ let both : ◌≡◌ {A = Result (List ℕ) StoreFault} (Err faults.NoMemory) (Err DiskFailed) = sym (ap (λ (r : Result Opened StoreFault). whole r) none) ∙ e in cc
   | inr is ↦ no_disk (serve cache space hash) (is_of_blobs cache space hash) (sym (is ∙ ap (λ (b : Option ℕ). broken_or b (serve cache space hash)) unbroken) ∙ e)
 ]
-
-fetched_store : (store next : OpenStore) (made : Option Entry) → made ≡ None → next ≡ store_after store [] made → next ≡ store
-fetched_store store next made none is = is ∙ ap (λ (m : Option Entry). store_after store [] m) none
-
-module _ (close : Bool) (hour : ℕ) (store : OpenStore) (space : List ℕ) (hash : IoHash) where
-  abbrev got_bytes : Result (List ℕ) StoreFault
-  got_bytes = serve store.cache space hash
-
-  -- a look-up is answered
-  pub fetch_answers : (damaged : Bool) (text : List ℕ) (next : OpenStore) → IsReplyBy damaged store [] (FetchAs got_bytes) (fetch_reply hash close) text next → IsReply damaged close hour store (get_blob space hash) text next
-  fetch_answers damaged text next (answer, made, (same, none), is, store_next, told) =
-      (is ∙ ap (fetch_reply hash close) same, fetched_store store next made none store_next, told ∙ ap (λ (r : Result (List ℕ) StoreFault). says_damaged r) same)
-
-  pub fetch_changes : (next : OpenStore) → IsChangeBy store [] (FetchAs got_bytes) next → IsChange hour store (get_blob space hash) next
-  fetch_changes next (value, entry, (_, none), _) = absurd (cc)

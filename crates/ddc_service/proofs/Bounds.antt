@@ -6,18 +6,18 @@ use Rattle.httparse.specs.Grammar.{RequestHead, print_request}
 use Rattle.httparse.specs.Spans.{name_and_value}
 use Rattle.ddc_names.specs.declared.hash.IoHash.{IoHash}
 use Rattle.ddc_names.specs.declared.reference.RefName.{RefName}
-use Rattle.ddc_protocol.specs.declared.form.Form.{Form}
-use Rattle.ddc_protocol.specs.declared.form.Form.TheVariants.{GetBlob, GetRef, Finalise}
-use Rattle.ddc_protocol.specs.Fields.{values_of, number, same_text}
-use Rattle.ddc_protocol.specs.Form.{most_blob_bytes, most_object_bytes, within_limit, put_length, put_blob_form, blob_form, put_ref_form, ref_form, finalise_form, refs_form, target_form, form_of, space_and_hash, ref_named, ref_and_hash, is_empty, is_of_type, is_without_body}
+use Rattle.ddc_protocol.specs.declared.request_form.RequestForm.{RequestForm}
+use Rattle.ddc_protocol.specs.declared.request_form.RequestForm.TheVariants.{GetBlob, GetRef, Finalise}
+use Rattle.ddc_protocol.specs.Fields.{values_of, decimal_value, same_text}
+use Rattle.ddc_protocol.specs.HeadForms.{most_object_bytes, within_limit, put_length, put_blob_form, blob_form, put_ref_form, ref_form, finalise_form, refs_form, target_form, form_of_head, space_and_hash, ref_named, ref_and_hash, is_empty, is_of_type, is_without_body}
 use Rattle.ddc_model.specs.Limits.{most_bytes}
-use Rattle.ddc_protocol.specs.Requests.{Item, Asks, stores, mismatches, fetches, puts, breaks, reads, finalises, Spells, body_length}
+use Rattle.ddc_protocol.specs.Requests.{Item, Asks, stores, mismatches, fetches, puts, breaks, reads, finalises, IsRequestText, body_length}
 use Rattle.ddc_service.specs.inside.Writes.{IsStorable}
 
-abbrev IsShort : Option Form → Type 0
-IsShort found = IfSome found (λ form. body_length form ≤ most_blob_bytes)
+abbrev IsShort : Option RequestForm → Type 0
+IsShort found = IfSome found (λ form. body_length form ≤ most_bytes)
 
-chosen : (b : Bool) (x y : Option Form) → IsShort x → IsShort y → IsShort (cond b x y)
+chosen : (b : Bool) (x y : Option RequestForm) → IsShort x → IsShort y → IsShort (cond b x y)
 chosen true x y p q = p
 chosen false x y p q = q
 
@@ -30,10 +30,10 @@ within most (Some n) = elim (nat_le n most) as (λ b. nat_le n most ≡ b → If
 
 put_length-short : (most : ℕ) (values : List (List ℕ)) → IfSome (put_length most values) (λ n. n ≤ most)
 put_length-short most [] = tt
-put_length-short most (value ∷ []) = within most (number value)
+put_length-short most (value ∷ []) = within most (decimal_value 19 value)
 put_length-short most (value ∷ other ∷ values) = tt
 
-put_blob_form-short : (blob : List ℕ × IoHash) (size : Option ℕ) → IfSome size (λ n. n ≤ most_blob_bytes) → IsShort (put_blob_form blob size)
+put_blob_form-short : (blob : List ℕ × IoHash) (size : Option ℕ) → IfSome size (λ n. n ≤ most_bytes) → IsShort (put_blob_form blob size)
 put_blob_form-short blob None h = tt
 put_blob_form-short blob (Some n) h = h
 
@@ -46,7 +46,7 @@ blob_form-short method fields None = tt
 blob_form-short method fields (Some blob) =
     let lengths = values_of (codes "content-length") fields in
     chosen (same_text method (codes "PUT") && is_of_type (codes "application/octet-stream") (values_of (codes "content-type") fields)) _ _
-    (put_blob_form-short blob (put_length most_blob_bytes lengths) (put_length-short most_blob_bytes lengths))
+    (put_blob_form-short blob (put_length most_bytes lengths) (put_length-short most_bytes lengths))
     (chosen (same_text method (codes "GET") && is_without_body lengths) (Some (GetBlob blob.0 blob.1)) None (omega arith) tt)
 
 ref_form-short : (method : List ℕ) (fields : List (List ℕ × List ℕ)) (name : Option RefName) → IsShort (ref_form method fields name)
@@ -67,22 +67,22 @@ target_form-short method fields target =
     (chosen (starts_with nat_eq target (codes "/api/v1/refs/")) (refs_form method fields (drop 13 target)) None
     (chosen (same_text method (codes "POST")) _ _ (finalise_form-short fields (ref_and_hash (drop 13 target))) (ref_form-short method fields (ref_named (drop 13 target)))) tt)
 
-form_of-short : (head : RequestHead) → IsShort (form_of head)
-form_of-short head =
+form_of_head-short : (head : RequestHead) → IsShort (form_of_head head)
+form_of_head-short head =
     let fields = map name_and_value head.fields in
     chosen (is_empty (values_of (codes "transfer-encoding") fields) && is_empty (values_of (codes "x-jupiter-iohash") fields)) (target_form head.method fields head.target) None
     (target_form-short head.method fields head.target) tt
 
 -- the most bytes of a request: a head of 16,384, and a body of 67,108,864
-pub length-text : (text : List ℕ) (item : Item) → Spells text item → length text ≤ 67125248
+pub length-text : (text : List ℕ) (item : Item) → IsRequestText text item → length text ≤ 67125248
 length-text text item s =
-    let body : body_length s.form ≤ most_blob_bytes = subst IsShort s.asks (form_of-short s.head) in
+    let body : body_length s.form ≤ most_bytes = subst IsShort s.asks (form_of_head-short s.head) in
     let whole = s.whole in
     let short = s.is_head.short in
     let split : length text ≡ length (print_request s.head) + length s.body = ap length s.spelled ∙ length-append (print_request s.head) s.body in
     omega arith
 
-fits_asked : (form : Form) (body : List ℕ) (item : Item) → Asks body form item → length body ≤ most_bytes → IsStorable item
+fits_asked : (form : RequestForm) (body : List ℕ) (item : Item) → Asks body form item → length body ≤ most_bytes → IsStorable item
 fits_asked _ body _ (stores content e k t) few = let long = ap length e in omega (arith, few)
 fits_asked _ body _ (mismatches t) few = tt
 fits_asked _ body _ fetches few = tt
@@ -92,8 +92,8 @@ fits_asked _ body _ reads few = tt
 fits_asked _ body _ finalises few = tt
 
 -- what a request stores is within the limits
-pub fits : (text : List ℕ) (item : Item) → Spells text item → IsStorable item
+pub fits : (text : List ℕ) (item : Item) → IsRequestText text item → IsStorable item
 fits text item s =
-    let body : body_length s.form ≤ most_blob_bytes = subst IsShort s.asks (form_of-short s.head) in
+    let body : body_length s.form ≤ most_bytes = subst IsShort s.asks (form_of_head-short s.head) in
     let whole = s.whole in
     fits_asked s.form s.body item s.item_is (omega arith)

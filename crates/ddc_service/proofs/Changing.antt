@@ -5,17 +5,17 @@ use Rattle.ddc_names.specs.declared.reference.RefName.{RefName}
 use Rattle.ddc_model.specs.declared.entry.Entry.{Entry}
 use Rattle.ddc_model.specs.declared.fault.StoreFault.{StoreFault}
 use Rattle.ddc_model.specs.State.{State}
-use Rattle.ddc_model.specs.Content.{Content, content_hash}
+use Rattle.ddc_model.specs.Content.{Content}
 use Rattle.ddc_model.specs.Sound.{Cache}
 use Rattle.ddc_model.specs.Commands.{EntryWhere, UploadAs, upload_entry, PutAs, PutWhere, put_fault, FinaliseAs, FinaliseWhere, is_done}
 use Rattle.ddc_model.specs.History.{Past, WithRoom, RoomWhere, no_room_for}
-use Rattle.ddc_model.specs.Reads.{HeldAs, HeldWhere, ServedWhere, undamaged}
+use Rattle.ddc_model.specs.Reads.{serve, HeldAs, HeldWhere, ServedWhere, undamaged}
 use Rattle.ddc_protocol.specs.Requests.{Item, put_blob, get_blob, put_ref, get_ref, finalise, mismatch, not_object}
 use Rattle.ddc_service.specs.declared.session.SessionEnd.TheVariants.{Closed, Unread, Cut, Spent, ReadFailed, WriteFailed, DiskFailed, Damaged, NoMemory}
 use Rattle.ddc_service.specs.declared.session.Turn.{Turn}
 use Rattle.ddc_service.specs.declared.session.Turn.TheVariants.{Answered, Over}
 use Rattle.ddc_service.specs.Effects.{Effect, Bytes}
-use Rattle.ddc_service.specs.Replies.{OpenStore, store_after, says_damaged, IsReplyBy, IsChangeBy, IsReply, IsChange, IsReplyAt, IsChangeAt, upload_reply, needs_reply, get_reply}
+use Rattle.ddc_service.specs.Replies.{OpenStore, store_after, says_damaged, ItemCommand, OnlyAnswers, item_command, IsReplyBy, IsChangeBy, IsReplyAt, IsChangeAt}
 use Rattle.ddc_service.specs.inside.Turns.{Reading, TookItem, TurnAs}
 
 -- ---- a refusal makes nothing
@@ -57,66 +57,42 @@ module _ {A : Type 0} (s : State) (past : Past) (Command : Result A StoreFault �
   none_with_room : MakesNone (WithRoom s past Command)
   none_with_room fault made (wished, entry, given, room) = none_by_room (no_room_for s past entry) wished entry given fault made room
 
+none_by_one : {A : Type 0} (known : Result A StoreFault) → MakesNone (OnlyAnswers known)
+none_by_one known fault made (e, is) = is
+
+-- no item's command makes an entry where it answers a fault
+none_by_item : (hour : ℕ) (store : OpenStore) (item : Item) → MakesNone (item_command hour store item).Command
+none_by_item hour store (put_blob space content) = let s = store.cache.index in none_with_room s store.past (UploadAs s space content hour) (none_by_entry (upload_entry s space content hour))
+none_by_item hour store (get_blob space hash) = none_by_one (serve store.cache space hash)
+none_by_item hour store (put_ref name content) = let s = store.cache.index in none_with_room s store.past (PutAs s name content hour) (none_by_put (put_fault s name content hour) s name content hour)
+none_by_item hour store (get_ref name) = none_by_get store.cache store.past name hour
+none_by_item hour store (finalise name hash) = let s = store.cache.index in none_with_room s store.past (FinaliseAs s name hash hour) (none_by_finalise (is_done s name hash) s name hash hour)
+none_by_item hour store (mismatch expected found) = let fine : Result (Unit {0}) StoreFault = Ok tt in none_by_one fine
+none_by_item hour store (not_object at) = let fine : Result (Unit {0}) StoreFault = Ok tt in none_by_one fine
+
 -- ---- what is damaged stays
 
-module _ {A : Type 0} (store : OpenStore) (bytes : List ℕ) (Command : Result A StoreFault → Option Entry → Type 0) (reply : Result A StoreFault → List ℕ) (none : MakesNone Command) where
-  damaged_stays : (answer : Result A StoreFault) (made : Option Entry) (next : OpenStore) → Command answer made → next ≡ store_after store bytes made → true ≡ says_damaged answer → next ≡ store
-  damaged_stays (Ok value) made next given is told = absurd (cc)
-  damaged_stays (Err fault) made next given is told = is ∙ ap (λ (m : Option Entry). store_after store bytes m) (none fault made given)
+module _ (c : ItemCommand) (store next : OpenStore) where
+  damaged_stays : MakesNone c.Command → (answer : Result c.Value StoreFault) (made : Option Entry) → c.Command answer made → next ≡ store_after store c.bytes made → true ≡ says_damaged answer → next ≡ store
+  damaged_stays none (Ok value) made given is told = absurd (cc)
+  damaged_stays none (Err fault) made given is told = is ∙ ap (λ (m : Option Entry). store_after store c.bytes m) (none fault made given)
 
-  gives_damaged : (text : List ℕ) (next : OpenStore) → IsReplyBy true store bytes Command reply text next → next ≡ store
-  gives_damaged text next (answer, made, given, is, store_is, told) = damaged_stays answer made next given store_is told
+  keeps_damaged : MakesNone c.Command → (close : Bool) (text : List ℕ) → IsReplyBy c true close store text next → next ≡ store
+  keeps_damaged none close text (answer, made, given, is, store_is, told) = damaged_stays none answer made given store_is told
 
-keeps_damaged : (close : Bool) (hour : ℕ) (store : OpenStore) (item : Item) (text : List ℕ) (next : OpenStore) → IsReply true close hour store item text next → next ≡ store
-keeps_damaged close hour store (put_blob space content) text next h =
-    let s = store.cache.index in
-    gives_damaged store content.bytes (WithRoom s store.past (UploadAs s space content hour)) (upload_reply (content_hash content.bytes) close) (none_with_room s store.past (UploadAs s space content hour) (none_by_entry (upload_entry s space content hour))) text next h
-keeps_damaged close hour store (get_blob space hash) text next (is, same, told) = same
-keeps_damaged close hour store (put_ref name content) text next h =
-    let s = store.cache.index in
-    gives_damaged store content.bytes (WithRoom s store.past (PutAs s name content hour)) (needs_reply close) (none_with_room s store.past (PutAs s name content hour) (none_by_put (put_fault s name content hour) s name content hour)) text next h
-keeps_damaged close hour store (get_ref name) text next h = gives_damaged store [] (HeldAs store.cache store.past name hour) (get_reply close) (none_by_get store.cache store.past name hour) text next h
-keeps_damaged close hour store (finalise name hash) text next h =
-    let s = store.cache.index in
-    gives_damaged store [] (WithRoom s store.past (FinaliseAs s name hash hour)) (needs_reply close) (none_with_room s store.past (FinaliseAs s name hash hour) (none_by_finalise (is_done s name hash) s name hash hour)) text next h
-keeps_damaged close hour store (mismatch expected found) text next (is, same, told) = same
-keeps_damaged close hour store (not_object at) text next (is, same, told) = same
+  -- ---- a change that the disks failed at
 
--- ---- a change that the disks failed at
+  -- a change has an answer that makes it
+  change_replies : (close : Bool) → IsChangeBy c store next → (text : List ℕ) × IsReplyBy c false close store text next
+  change_replies close (value, entry, given, is) = (c.reply close (Ok value), (Ok value, Some entry, given, refl, is, refl))
 
--- a change has an answer that makes it
-module _ {A : Type 0} (store : OpenStore) (bytes : List ℕ) (Command : Result A StoreFault → Option Entry → Type 0) (reply : Result A StoreFault → List ℕ) (next : OpenStore) where
-  makes_gives : IsChangeBy store bytes Command next → (text : List ℕ) × IsReplyBy false store bytes Command reply text next
-  makes_gives (value, entry, given, is) = (reply (Ok value), (Ok value, Some entry, given, refl, is, refl))
-
-  makes_more : IsChangeBy store bytes Command next → next.past.entries ≡ store.past.entries + 1
-  makes_more (value, entry, given, is) = ap (λ (o : OpenStore). o.past.entries) is
-
-changes_answers : (close : Bool) (hour : ℕ) (store : OpenStore) (item : Item) (next : OpenStore) → IsChange hour store item next → (text : List ℕ) × IsReply false close hour store item text next
-changes_answers close hour store (put_blob space content) next h =
-    makes_gives store content.bytes (WithRoom store.cache.index store.past (UploadAs store.cache.index space content hour)) (upload_reply (content_hash content.bytes) close) next h
-changes_answers close hour store (get_blob space hash) next h = absurd h
-changes_answers close hour store (put_ref name content) next h =
-    makes_gives store content.bytes (WithRoom store.cache.index store.past (PutAs store.cache.index name content hour)) (needs_reply close) next h
-changes_answers close hour store (get_ref name) next h = makes_gives store [] (HeldAs store.cache store.past name hour) (get_reply close) next h
-changes_answers close hour store (finalise name hash) next h =
-    makes_gives store [] (WithRoom store.cache.index store.past (FinaliseAs store.cache.index name hash hour)) (needs_reply close) next h
-changes_answers close hour store (mismatch expected found) next h = absurd h
-changes_answers close hour store (not_object at) next h = absurd h
-
-changes_more : (hour : ℕ) (store : OpenStore) (item : Item) (next : OpenStore) → IsChange hour store item next → next.past.entries ≡ store.past.entries + 1
-changes_more hour store (put_blob space content) next h = makes_more store content.bytes (WithRoom store.cache.index store.past (UploadAs store.cache.index space content hour)) (upload_reply (content_hash content.bytes) false) next h
-changes_more hour store (get_blob space hash) next h = absurd h
-changes_more hour store (put_ref name content) next h = makes_more store content.bytes (WithRoom store.cache.index store.past (PutAs store.cache.index name content hour)) (needs_reply false) next h
-changes_more hour store (get_ref name) next h = makes_more store [] (HeldAs store.cache store.past name hour) (get_reply false) next h
-changes_more hour store (finalise name hash) next h = makes_more store [] (WithRoom store.cache.index store.past (FinaliseAs store.cache.index name hash hour)) (needs_reply false) next h
-changes_more hour store (mismatch expected found) next h = absurd h
-changes_more hour store (not_object at) next h = absurd h
+  change_more : IsChangeBy c store next → next.past.entries ≡ store.past.entries + 1
+  change_more (value, entry, given, is) = ap (λ (o : OpenStore). o.past.entries) is
 
 -- so it changes something
 pub changes_something : (told : Option ℕ) (store : OpenStore) (item : Item) (next : OpenStore) → IsChangeAt told store item next → next ≡ store → ⊥
 changes_something told store item next (hour, tells, changes) same =
-    let more = changes_more hour store item next changes in
+    let more = change_more (item_command hour store item) store next changes in
     let kept : next.past.entries ≡ store.past.entries = ap (λ (o : OpenStore). o.past.entries) same in
     omega (arith, more, kept)
 
@@ -128,7 +104,7 @@ module _ (told : Option ℕ) (r : Reading) (close : Bool) (sink : Effect Bytes) 
   LeftBy = (next ≡ store) ⊎ ((item : Item) × (text : List ℕ) × TookItem r item × IsReplyAt told false close store item text next)
 
   by_damage : (damaged : Bool) (item : Item) (text : List ℕ) → TookItem r item → IsReplyAt told damaged close store item text next → LeftBy
-  by_damage true item text took (hour, is, answers) = inl (keeps_damaged close hour store item text next answers)
+  by_damage true item text took (hour, is, answers) = inl (keeps_damaged (item_command hour store item) store next (none_by_item hour store item) close text answers)
   by_damage false item text took answers = inr (item, text, took, answers)
 
   pub leaves : (turn : Turn) → TurnAs told r close sink store next turn → LeftBy
@@ -140,7 +116,7 @@ module _ (told : Option ℕ) (r : Reading) (close : Bool) (sink : Effect Bytes) 
   leaves (Over ReadFailed) (lost, kept, same) = inl same
   leaves (Over WriteFailed) (inl (damaged, text, (item, took, answers), wrote)) = by_damage damaged item text took answers
   leaves (Over WriteFailed) (inr (is_unread, wrote, same)) = inl same
-  leaves (Over DiskFailed) (item, took, (hour, is, changes), wrote) = let (text, answers) = changes_answers close hour store item next changes in inr (item, text, took, (hour, is, answers))
+  leaves (Over DiskFailed) (item, took, (hour, is, changes), wrote) = let (text, answers) = change_replies (item_command hour store item) store next close changes in inr (item, text, took, (hour, is, answers))
   leaves (Over Damaged) (text, (item, took, answers), wrote) = by_damage true item text took answers
   leaves (Over NoMemory) (kept, inl same) = inl same
   leaves (Over NoMemory) (kept, inr (text, (item, took, answers))) = inr (item, text, took, answers)

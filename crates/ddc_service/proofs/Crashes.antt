@@ -12,6 +12,7 @@ use Rattle.ddc_book.specs.Calls.{GoesOn}
 use Rattle.ddc_book.specs.Opening.{Opens}
 use Rattle.ddc_book.specs.View.{BookView, limits_of, line_of, faults_of}
 use Rattle.ddc_protocol.specs.Requests.{most_items}
+use Rattle.ddc_http.specs.Reader.{Ahead}
 use Rattle.ddc_service.specs.declared.session.SessionEnd.{SessionEnd}
 use Rattle.ddc_service.specs.declared.session.SessionEnd.TheVariants.{Closed, Unread, Cut, Spent, ReadFailed, WriteFailed, DiskFailed, Damaged, NoMemory}
 use Rattle.ddc_service.specs.declared.session.Turn.{Turn}
@@ -45,10 +46,10 @@ module _ {D : Type 0} (tells : Bool) (meaning : D → Meaning) (told : Option �
   abbrev Within_first : Images → Type 0
   Within_first = Within meaning told source.before first
 
-  module _ (ahead now mid : Bytes) (faults count from to : ℕ) (close : Bool) (few : count < most_items) (last : close ≡ closes count)
-      (far : SoFar told source.before ahead sink.before mid (store_of first) (store_of book) count from) (devices : (next ≡ book) ⊎ GoesOn tells meaning book next) (unbroken : broken_by book.steps ≡ None) (limits : limits_of book ≡ limits_of first) where
+  module _ (here : Ahead) (held : List ℕ) (mid : Bytes) (faults count from to : ℕ) (close : Bool) (few : count < most_items) (last : close ≡ closes count)
+      (far : SoFar told source.before here sink.before mid (store_of first) (store_of book) count from) (devices : (next ≡ book) ⊎ GoesOn tells meaning book next) (unbroken : broken_by book.steps ≡ None) (limits : limits_of book ≡ limits_of first) where
     abbrev Took : Turn → Type 0
-    Took turn = TurnAs told (turn_reading session_on ahead now from to) close (turn_sink session_on mid faults) (store_of book) (store_of next) turn
+    Took turn = TurnAs told (turn_reading session_on here held from to) close (turn_sink session_on mid faults) (store_of book) (store_of next) turn
 
     opens_first : (im : Images) (cache : Cache) → Opens (limits_of book) im cache → Opens (limits_of first) im cache
     opens_first im cache opens = subst (λ (l : Limits). Opens l im cache) limits opens
@@ -58,19 +59,19 @@ module _ {D : Type 0} (tells : Bool) (meaning : D → Meaning) (told : Option �
       items = far.items;
       text = far.text;
       state = store_of book;
-      answered = so_far_answered session_on ahead now mid faults (store_of book) count from to close few last far;
+      answered = so_far_answered session_on here held mid faults (store_of book) count from to close few last far;
       opens = opens_first im book.cache opens;
     }
 
     within_new : (turn : Turn) → Took turn → (im : Images) → Opens (limits_of book) im next.cache → Within_first im
     within_new turn taken im opens =
-        elim (leaves told (turn_reading session_on ahead now from to) close (turn_sink session_on mid faults) (store_of book) (store_of next) turn taken) [
+        elim (leaves told (turn_reading session_on here held from to) close (turn_sink session_on mid faults) (store_of book) (store_of next) turn taken) [
           | inl same ↦ within_old im (subst (λ (c : Cache). Opens (limits_of book) im c) (ap (λ (o : OpenStore). o.cache) same) opens)
           | inr (item, text, took, answers) ↦ record {
             items = far.items ++ item ∷ [];
             text = far.text ++ text;
             state = store_of next;
-            answered = then_answered session_on ahead now mid faults (store_of book) count from to close few last far item took text answers;
+            answered = then_answered session_on here held mid faults (store_of book) count from to close few last far item took text answers;
             opens = opens_first im next.cache opens;
           }
         ]
@@ -98,7 +99,7 @@ module _ {D : Type 0} (tells : Bool) (meaning : D → Meaning) (told : Option �
     stops WriteFailed taken tells = tt
     stops DiskFailed (item, took, changes, wrote) tells = (
       far.text,
-      one_change session_on ahead now mid faults (store_of book) count from to close few last far item took changes,
+      one_change session_on here held mid faults (store_of book) count from to close few last far item took changes,
       elim devices [
         | inl same ↦ absurd (changes_something told (store_of book) item (store_of next) changes (ap (λ (b : BookView D). store_of b) same))
         | inr goes ↦ either_now tells goes

@@ -1,9 +1,10 @@
 -- A run of turns, and how each end of it follows.
 use Rattle.std.proofs.Common.{◌≡◌, ℕ, ◌≤◌, ◌<◌, ◌+◌, ◌*◌, Bool, true, false, List, [], ◌∷◌, ◌++◌, length, refl, sym, ap, ◌∙◌, subst, append_assoc, append-nil, arith, Option, Some, None, IfSome, inl, inr, length-append}
-use Rattle.std.specs.Io.KnownBytes.{Keeps, Appends, Consumes, prepend_known}
+use Rattle.std.specs.Io.KnownBytes.{Keeps, Appends, Consumes}
 use Rattle.std.proofs.KnownBytes.{Appends-trans, Appends-kept, Consumes-trans}
-use Rattle.ddc_protocol.specs.Requests.{Item, Begins, Spells, EndsAs, IsUnread, IsCut, End, closed, cut, unread, spent, most_items}
+use Rattle.ddc_protocol.specs.Requests.{Item, Begins, IsRequestText, EndsAs, IsUnread, IsCut, End, closed, cut, unread, spent, most_items}
 use Rattle.ddc_protocol.specs.Replies.{unread_reply}
+use Rattle.ddc_http.specs.Reader.{Ahead, ahead, bytes_of_ahead}
 use Rattle.ddc_service.specs.declared.session.SessionEnd.{SessionEnd}
 use Rattle.ddc_service.specs.declared.session.SessionEnd.TheVariants.{Closed, Unread, Cut, Spent, ReadFailed, WriteFailed, DiskFailed, Damaged, NoMemory}
 use Rattle.ddc_service.specs.declared.session.Turn.TheVariants.{Over}
@@ -21,7 +22,7 @@ begins_more [] front mid rest h = ap (λ l. l ++ rest) h
 begins_more (item ∷ items) front mid rest (text, tail, split, spells, more) =
     (text, tail ++ rest, ap (λ l. l ++ rest) split ∙ append_assoc text tail rest, spells, begins_more items tail mid rest more)
 
-begins_snoc : (items : List Item) (item : Item) (bytes text rest : List ℕ) → Begins bytes items (text ++ rest) → Spells text item → Begins bytes (items ++ item ∷ []) rest
+begins_snoc : (items : List Item) (item : Item) (bytes text rest : List ℕ) → Begins bytes items (text ++ rest) → IsRequestText text item → Begins bytes (items ++ item ∷ []) rest
 begins_snoc [] item bytes text rest h s = (text, rest, h, s, refl)
 begins_snoc (first ∷ items) item bytes text rest (t, tail, split, spells, more) s = (t, tail, split, spells, begins_snoc items item tail text rest more s)
 
@@ -43,29 +44,29 @@ runs_snoc told count (head ∷ items) item text more a b c (first, others, betwe
     )
 
 -- the items so far
-pub record SoFar (told : Option ℕ) (input ahead old now : Bytes) (start next : OpenStore) (count place : ℕ) : Type 0 where
+pub record SoFar (told : Option ℕ) (input : Bytes) (here : Ahead) (old now : Bytes) (start next : OpenStore) (count place : ℕ) : Type 0 where
   pub items : List Item
   pub front : List ℕ
   pub text : List ℕ
   pub begins : Begins front items []
-  pub consumed : Consumes input ahead front
+  pub consumed : Consumes input (bytes_of_ahead here) front
   pub runs : Runs told 0 start items text next
   pub wrote : Appends old now text
   pub counted : length items ≡ count
   pub placed : place ≡ length front
   pub bounded : length front ≤ count * 67125248
 
-consumes_none : (input : Bytes) → Consumes input (prepend_known [] input) []
+consumes_none : (input : Bytes) → Consumes input (bytes_of_ahead (ahead [] input)) []
 consumes_none None = tt
 consumes_none (Some bytes) = refl
 
-pub at_start : (told : Option ℕ) (input old : Bytes) (start : OpenStore) (held : List ℕ) (place : ℕ) → held ≡ [] → place ≡ 0 → SoFar told input (prepend_known held input) old old start start 0 place
+pub at_start : (told : Option ℕ) (input old : Bytes) (start : OpenStore) (held : List ℕ) (place : ℕ) → held ≡ [] → place ≡ 0 → SoFar told input (ahead held input) old old start start 0 place
 at_start told input old start held place bare is = record {
   items = [];
   front = [];
   text = [];
   begins = refl;
-  consumed = subst (λ (bytes : List ℕ). Consumes input (prepend_known bytes input) []) (sym bare) (consumes_none input);
+  consumed = subst (λ (bytes : List ℕ). Consumes input (bytes_of_ahead (ahead bytes input)) []) (sym bare) (consumes_none input);
   runs = (refl, refl);
   wrote = appends_none old;
   counted = refl;
@@ -104,27 +105,27 @@ always None count e = tt
 always (Some x) count e = e
 
 -- what a turn does with which a session ends, up to there
-abbrev pub turn_reading : Session → Bytes → Bytes → ℕ → ℕ → Reading
-turn_reading s ahead now from to = record { ahead = ahead; ahead_after = now; left = s.source.after; place = from; place_after = to }
+abbrev pub turn_reading : Session → Ahead → List ℕ → ℕ → ℕ → Reading
+turn_reading s here held from to = record { old = here; new = ahead held s.source.after; place = from; place_after = to }
 
 abbrev pub turn_sink : Session → Bytes → ℕ → Effect Bytes
 turn_sink s mid faults = record { before = mid; after = s.sink.after; faults_before = faults; faults_after = s.sink.faults_after }
 
 -- one turn after the items so far
-module _ (s : Session) (ahead now mid : Bytes) (faults : ℕ) (at : OpenStore) (count from to : ℕ) (close : Bool) (few : count < most_items) (last : close ≡ closes count)
-    (far : SoFar s.hour s.source.before ahead s.sink.before mid s.store.before at count from) where
+module _ (s : Session) (here : Ahead) (held : List ℕ) (mid : Bytes) (faults : ℕ) (at : OpenStore) (count from to : ℕ) (close : Bool) (few : count < most_items) (last : close ≡ closes count)
+    (far : SoFar s.hour s.source.before here s.sink.before mid s.store.before at count from) where
   pub so_far_answered : AnsweredFront s.hour s.source.before s.store.before far.items far.text at
-  so_far_answered = let counted = far.counted in record { begins = starts_as s.source.before ahead far.front far.items far.consumed far.begins; few = omega arith; runs = far.runs }
+  so_far_answered = let counted = far.counted in record { begins = starts_as s.source.before (bytes_of_ahead here) far.front far.items far.consumed far.begins; few = omega arith; runs = far.runs }
 
   pub few_so_far : length far.items < most_items
   few_so_far = let counted = far.counted in omega arith
 
-  module _ (item : Item) (took : TookItem (turn_reading s ahead now from to) item) where
+  module _ (item : Item) (took : TookItem (turn_reading s here held from to) item) where
     begun : Begins (far.front ++ took.0) (far.items ++ item ∷ []) []
     begun = begins_snoc far.items item (far.front ++ took.0) took.0 [] (subst (λ (r : List ℕ). Begins (far.front ++ took.0) far.items r) (sym (append-nil took.0)) (begins_more far.items far.front [] took.0 far.begins)) took.1
 
     pub one_begins : StartsAs s.source.before (far.items ++ item ∷ [])
-    one_begins = starts_as s.source.before now (far.front ++ took.0) (far.items ++ item ∷ []) (Consumes-trans s.source.before ahead now far.front took.0 far.consumed took.2) begun
+    one_begins = starts_as s.source.before (bytes_of_ahead (ahead held s.source.after)) (far.front ++ took.0) (far.items ++ item ∷ []) (Consumes-trans s.source.before (bytes_of_ahead here) (bytes_of_ahead (ahead held s.source.after)) far.front took.0 far.consumed took.2) begun
 
     one_more : (damaged : Bool) (more : List ℕ) → IsReplyAt s.hour damaged close at item more s.store.after → OneMore s.hour s.source.before s.store.before s.store.after damaged far.text more
     one_more damaged more answers = record {
@@ -150,7 +151,7 @@ module _ (s : Session) (ahead now mid : Bytes) (faults : ℕ) (at : OpenStore) (
   stays : s.store.after ≡ at → Runs s.hour 0 s.store.before far.items far.text s.store.after
   stays same = subst (λ (store : OpenStore). Runs s.hour 0 s.store.before far.items far.text store) (sym same) far.runs
 
-  pub extends : TurnAs s.hour (turn_reading s ahead now from to) close (turn_sink s mid faults) at s.store.after turns.Answered → SoFar s.hour s.source.before now s.sink.before s.sink.after s.store.before s.store.after (count + 1) to
+  pub extends : TurnAs s.hour (turn_reading s here held from to) close (turn_sink s mid faults) at s.store.after turns.Answered → SoFar s.hour s.source.before (ahead held s.source.after) s.sink.before s.sink.after s.store.before s.store.after (count + 1) to
   extends (more, (item, took, answers), wrote) =
       let long = length-text took.0 item took.1 in
       let bounded = far.bounded in
@@ -162,7 +163,7 @@ module _ (s : Session) (ahead now mid : Bytes) (faults : ℕ) (at : OpenStore) (
         front = far.front ++ took.0;
         text = far.text ++ more;
         begins = begun item took;
-        consumed = Consumes-trans s.source.before ahead now far.front took.0 far.consumed took.2;
+        consumed = Consumes-trans s.source.before (bytes_of_ahead here) (bytes_of_ahead (ahead held s.source.after)) far.front took.0 far.consumed took.2;
         runs = runs_more s.hour far.items item far.text more s.store.before at s.store.after close count last far.counted far.runs answers;
         wrote = Appends-trans s.sink.before mid s.sink.after far.text more far.wrote wrote;
         counted = length-append far.items (item ∷ []) ∙ ap (λ n. n + 1) far.counted;
@@ -170,24 +171,24 @@ module _ (s : Session) (ahead now mid : Bytes) (faults : ℕ) (at : OpenStore) (
         bounded = omega arith;
       }
 
-  quiet : (place : ℕ) (end : End) → place ≡ from → last_text end ≡ [] → IfSome ahead (λ rest. EndsAs (length far.items) rest end) → Keeps mid s.sink.after → s.store.after ≡ at → AllReplies s place end
+  quiet : (place : ℕ) (end : End) → place ≡ from → last_text end ≡ [] → IfSome (bytes_of_ahead here) (λ rest. EndsAs (length far.items) rest end) → Keeps mid s.sink.after → s.store.after ≡ at → AllReplies s place end
   quiet place end e none ended kept same = (
     far.items,
     far.text,
-    has_cut s.source.before ahead far.front far.items place end far.consumed far.begins (e ∙ far.placed) ended,
+    has_cut s.source.before (bytes_of_ahead here) far.front far.items place end far.consumed far.begins (e ∙ far.placed) ended,
     stays same,
     subst (Appends s.sink.before s.sink.after) (sym (append-nil far.text) ∙ ap (λ l. far.text ++ l) (sym none)) (Appends-kept s.sink.before mid s.sink.after far.text far.wrote kept),
   )
 
-  counts : (P : List ℕ → Type 0) → IfSome ahead P → IfSome ahead (λ rest. (length far.items < most_items) × P rest)
-  counts P h = let counted = far.counted in with_count ahead P (length far.items) (omega arith) h
+  counts : (P : List ℕ → Type 0) → IfSome (bytes_of_ahead here) P → IfSome (bytes_of_ahead here) (λ rest. (length far.items < most_items) × P rest)
+  counts P h = let counted = far.counted in with_count (bytes_of_ahead here) P (length far.items) (omega arith) h
 
-  pub ends : (end : SessionEnd) → TurnAs s.hour (turn_reading s ahead now from to) close (turn_sink s mid faults) at s.store.after (Over end) → IsSession s end
+  pub ends : (end : SessionEnd) → TurnAs s.hour (turn_reading s here held from to) close (turn_sink s mid faults) at s.store.after (Over end) → IsSession s end
   ends Closed (none, end, kept, same) = (from, quiet from closed refl refl (counts (λ rest. rest ≡ []) none) kept same, end)
   ends (Unread place) (is_unread, is, wrote, same) = (
     far.items,
     far.text,
-    has_cut s.source.before ahead far.front far.items place unread far.consumed far.begins (is ∙ far.placed) (counts IsUnread is_unread),
+    has_cut s.source.before (bytes_of_ahead here) far.front far.items place unread far.consumed far.begins (is ∙ far.placed) (counts IsUnread is_unread),
     stays same,
     Appends-trans s.sink.before mid s.sink.after far.text unread_reply far.wrote wrote,
   )
@@ -198,7 +199,7 @@ module _ (s : Session) (ahead now mid : Bytes) (faults : ℕ) (at : OpenStore) (
     far.text,
     far.front ++ part,
     part,
-    Consumes-trans s.source.before ahead s.source.after far.front part far.consumed lost,
+    Consumes-trans s.source.before (bytes_of_ahead here) s.source.after far.front part far.consumed lost,
     begins_more far.items far.front [] part far.begins,
     few_so_far,
     none,
@@ -210,7 +211,7 @@ module _ (s : Session) (ahead now mid : Bytes) (faults : ℕ) (at : OpenStore) (
     far.items,
     far.text,
     from,
-    has_cut s.source.before ahead far.front far.items from unread far.consumed far.begins far.placed (counts IsUnread is_unread),
+    has_cut s.source.before (bytes_of_ahead here) far.front far.items from unread far.consumed far.begins far.placed (counts IsUnread is_unread),
     stays same,
     front_after s.sink.before mid s.sink.after far.text unread_reply far.wrote wrote,
   )
@@ -224,11 +225,11 @@ module _ (s : Session) (ahead now mid : Bytes) (faults : ℕ) (at : OpenStore) (
   ends NoMemory (kept, inr (more, (item, took, answers))) = (far.text, Appends-kept s.sink.before mid s.sink.after far.text far.wrote kept, inr (more, one_more item took false more answers))
 
 -- as many turns as there may be
-pub spends : (s : Session) (ahead : Bytes) (place : ℕ) → SoFar s.hour s.source.before ahead s.sink.before s.sink.after s.store.before s.store.after 10000 place → IsSession s (Spent place)
-spends s ahead place far = (
+pub spends : (s : Session) (ahead : Bytes) (place : ℕ) → SoFar s.hour s.source.before here s.sink.before s.sink.after s.store.before s.store.after 10000 place → IsSession s (Spent place)
+spends s here place far = (
   far.items,
   far.text,
-  has_cut s.source.before ahead far.front far.items place spent far.consumed far.begins far.placed (always ahead (length far.items) far.counted),
+  has_cut s.source.before (bytes_of_ahead here) far.front far.items place spent far.consumed far.begins far.placed (always (bytes_of_ahead here) (length far.items) far.counted),
   far.runs,
   subst (Appends s.sink.before s.sink.after) (sym (append-nil far.text)) far.wrote,
 )

@@ -1,5 +1,5 @@
 -- What a call did to a source, to a sink or to a store.
-use Rattle.std.specs.Prelude.{ℕ, List, Option}
+use Rattle.std.specs.Prelude.{◌≡◌, ℕ, List, Option}
 use Rattle.ddc_names.specs.Causes.{Rose}
 
 -- how it was seen before the call and after it, and how often it had failed then
@@ -19,3 +19,11 @@ Bytes = Option (List ℕ)
 -- the count of faults rose
 abbrev pub Rises : {A : Type 0} → Effect A → Type 0
 Rises call = Rose call.faults_before call.faults_after
+
+-- it stayed
+abbrev pub MeetsNoFault : {A : Type 0} → Effect A → Type 0
+MeetsNoFault call = call.faults_before ≡ call.faults_after
+
+-- nothing was done
+abbrev pub IsUntouched : {A : Type 0} → Effect A → Type 0
+IsUntouched call = (call.after ≡ call.before) × MeetsNoFault call

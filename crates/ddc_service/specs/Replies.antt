@@ -65,36 +65,59 @@ abbrev pub says_damaged : {A : Type 0} → Result A StoreFault → Bool
 says_damaged (Ok a) = false
 says_damaged (Err fault) = is_damaged fault
 
+-- an item as a command on a store: what it may answer with the entry that it makes, the bytes of the blob that it brings, and
+-- the text of the reply to an answer
+pub record ItemCommand : Type 1 where
+  pub Value : Type 0
+  pub bytes : List ℕ
+  pub Command : Result Value StoreFault → Option Entry → Type 0
+  pub reply : Bool → Result Value StoreFault → List ℕ
+
+-- one answer is given, and nothing is made
+abbrev pub OnlyAnswers : {A : Type 0} → Result A StoreFault → Result A StoreFault → Option Entry → Type 0
+OnlyAnswers known answer made = (answer ≡ known) × (made ≡ None)
+
+-- at this hour
+abbrev pub item_command : ℕ → OpenStore → Item → ItemCommand
+item_command hour store (put_blob space content) = record {
+  Value = Unit {0};
+  bytes = content.bytes;
+  Command = WithRoom store.cache.index store.past (UploadAs store.cache.index space content hour);
+  reply = upload_reply (content_hash content.bytes);
+}
+item_command hour store (get_blob space hash) = record { Value = List ℕ; bytes = []; Command = OnlyAnswers (serve store.cache space hash); reply = fetch_reply hash }
+item_command hour store (put_ref name content) = record {
+  Value = List IoHash;
+  bytes = content.bytes;
+  Command = WithRoom store.cache.index store.past (PutAs store.cache.index name content hour);
+  reply = needs_reply;
+}
+item_command hour store (get_ref name) = record { Value = IoHash × List ℕ; bytes = []; Command = HeldAs store.cache store.past name hour; reply = get_reply }
+item_command hour store (finalise name hash) = record {
+  Value = List IoHash;
+  bytes = [];
+  Command = WithRoom store.cache.index store.past (FinaliseAs store.cache.index name hash hour);
+  reply = needs_reply;
+}
+item_command hour store (mismatch expected found) = record { Value = Unit {0}; bytes = []; Command = OnlyAnswers (Ok tt); reply = λ close answer. json_reply 400 (mismatch_body expected found) close }
+item_command hour store (not_object at) = record { Value = Unit {0}; bytes = []; Command = OnlyAnswers (Ok tt); reply = λ close answer. json_reply 400 (not_object_body at) close }
+
 -- a command answers, and the text and the store after it follow; whether the answer says that a blob is damaged
-abbrev pub IsReplyBy : {A : Type 0} → Bool → OpenStore → List ℕ → (Result A StoreFault → Option Entry → Type 0) → (Result A StoreFault → List ℕ) → List ℕ → OpenStore → Type 0
-IsReplyBy {A} damaged store bytes Command reply text next =
-    (answer : Result A StoreFault) × (made : Option Entry) × Command answer made × (text ≡ reply answer) × (next ≡ store_after store bytes made) × (damaged ≡ says_damaged answer)
+abbrev pub IsReplyBy : ItemCommand → Bool → Bool → OpenStore → List ℕ → OpenStore → Type 0
+IsReplyBy c damaged close store text next =
+    (answer : Result c.Value StoreFault) × (made : Option Entry) × c.Command answer made × (text ≡ c.reply close answer) × (next ≡ store_after store c.bytes made) × (damaged ≡ says_damaged answer)
 
 -- the text of the reply to an item at this hour, and the store after it
 abbrev pub IsReply : Bool → Bool → ℕ → OpenStore → Item → List ℕ → OpenStore → Type 0
-IsReply damaged close hour store (put_blob space content) text next =
-    IsReplyBy damaged store content.bytes (WithRoom store.cache.index store.past (UploadAs store.cache.index space content hour)) (upload_reply (content_hash content.bytes) close) text next
-IsReply damaged close hour store (get_blob space hash) text next =
-    (text ≡ fetch_reply hash close (serve store.cache space hash)) × (next ≡ store) × (damaged ≡ says_damaged (serve store.cache space hash))
-IsReply damaged close hour store (put_ref name content) text next =
-    IsReplyBy damaged store content.bytes (WithRoom store.cache.index store.past (PutAs store.cache.index name content hour)) (needs_reply close) text next
-IsReply damaged close hour store (get_ref name) text next = IsReplyBy damaged store [] (HeldAs store.cache store.past name hour) (get_reply close) text next
-IsReply damaged close hour store (finalise name hash) text next =
-    IsReplyBy damaged store [] (WithRoom store.cache.index store.past (FinaliseAs store.cache.index name hash hour)) (needs_reply close) text next
-IsReply damaged close hour store (mismatch expected found) text next = (text ≡ json_reply 400 (mismatch_body expected found) close) × (next ≡ store) × (damaged ≡ false)
-IsReply damaged close hour store (not_object at) text next = (text ≡ json_reply 400 (not_object_body at) close) × (next ≡ store) × (damaged ≡ false)
+IsReply damaged close hour store item text next = IsReplyBy (item_command hour store item) damaged close store text next
 
 -- a command would make an entry, and the store after it follows
-abbrev pub IsChangeBy : {A : Type 0} → OpenStore → List ℕ → (Result A StoreFault → Option Entry → Type 0) → OpenStore → Type 0
-IsChangeBy {A} store bytes Command next = (value : A) × (entry : Entry) × Command (Ok value) (Some entry) × (next ≡ store_after store bytes (Some entry))
+abbrev pub IsChangeBy : ItemCommand → OpenStore → OpenStore → Type 0
+IsChangeBy c store next = (value : c.Value) × (entry : Entry) × c.Command (Ok value) (Some entry) × (next ≡ store_after store c.bytes (Some entry))
 
 -- the change that an item would make at this hour, and the store after it
 abbrev pub IsChange : ℕ → OpenStore → Item → OpenStore → Type 0
-IsChange hour store (put_blob space content) next = IsChangeBy store content.bytes (WithRoom store.cache.index store.past (UploadAs store.cache.index space content hour)) next
-IsChange hour store (put_ref name content) next = IsChangeBy store content.bytes (WithRoom store.cache.index store.past (PutAs store.cache.index name content hour)) next
-IsChange hour store (get_ref name) next = IsChangeBy store [] (HeldAs store.cache store.past name hour) next
-IsChange hour store (finalise name hash) next = IsChangeBy store [] (WithRoom store.cache.index store.past (FinaliseAs store.cache.index name hash hour)) next
-IsChange hour store other next = ⊥
+IsChange hour store item next = IsChangeBy (item_command hour store item) store next
 
 -- the hour is the clock's, where the clock tells it
 abbrev pub IsHour : Option ℕ → ℕ → Type 0

@@ -8,11 +8,11 @@ use Rattle.ddc_model.specs.declared.rows.Limits.{Limits}
 use Rattle.ddc_model.specs.History.{past_of}
 use Rattle.ddc_book.specs.Opening.{Opens}
 use Rattle.ddc_book.specs.View.{BookView}
-use Rattle.ddc_protocol.specs.Requests.{Item, Begins, Cuts, HasNoItem, End, closed, cut, unread, spent, most_items}
+use Rattle.ddc_protocol.specs.Requests.{Item, Begins, Cuts, HasNoRequestText, End, closed, cut, unread, spent, most_items}
 use Rattle.ddc_protocol.specs.Replies.{unread_reply}
 use Rattle.ddc_service.specs.declared.session.SessionEnd.{SessionEnd}
 use Rattle.ddc_service.specs.declared.session.SessionEnd.TheVariants.{Closed, Unread, Cut, Spent, ReadFailed, WriteFailed, DiskFailed, Damaged, NoMemory}
-use Rattle.ddc_service.specs.Effects.{Effect, Bytes, Rises}
+use Rattle.ddc_service.specs.Effects.{Effect, Bytes, Rises, MeetsNoFault}
 use Rattle.ddc_service.specs.Replies.{OpenStore, IsReplyAt, IsChangeAt, closes, Runs, last_text, failed_reply}
 
 -- a book as a stream sees it
@@ -70,7 +70,7 @@ AllReplies s at end = (items : List Item) × (text : List ℕ) × HasCut s.sourc
 -- the replies to all items that the bytes read hold whole, which are fewer than the most
 abbrev pub RepliesToRead : Session → Type 0
 RepliesToRead s =
-    (items : List Item) × (text : List ℕ) × (read : List ℕ) × (part : List ℕ) × Consumes s.source.before s.source.after read × Begins read items part × (length items < most_items) × HasNoItem part
+    (items : List Item) × (text : List ℕ) × (read : List ℕ) × (part : List ℕ) × Consumes s.source.before s.source.after read × Begins read items part × (length items < most_items) × HasNoRequestText part
     × Runs s.hour 0 s.store.before items text s.store.after × Appends s.sink.before s.sink.after text
 
 -- a front of the replies to the first items, the last of which may say that a blob is damaged; or of the replies to all
@@ -98,12 +98,14 @@ IsSession s DiskFailed = (text : List ℕ) × OneChange s.hour s.source.before s
 IsSession s Damaged = (text : List ℕ) × (more : List ℕ) × OneMore s.hour s.source.before s.store.before s.store.after true text more × AppendsFront s.sink.before s.sink.after (text ++ more)
 IsSession s NoMemory = FirstReplies s
 
--- why a session ends before its input does
-abbrev pub HasRisen : Session → SessionEnd → Type 0
-HasRisen s ReadFailed = Rises s.source
-HasRisen s WriteFailed = Rises s.sink
-HasRisen s DiskFailed = Rises s.store
-HasRisen s other = Unit {0}
+-- the counts of faults, which rise only where that is why the session ends. Where a disk failed or a blob is damaged, the sink
+-- may have failed too as that was written
+abbrev pub CountsAs : Session → SessionEnd → Type 0
+CountsAs s ReadFailed = Rises s.source × MeetsNoFault s.sink
+CountsAs s WriteFailed = MeetsNoFault s.source × Rises s.sink
+CountsAs s DiskFailed = MeetsNoFault s.source × Rises s.store
+CountsAs s Damaged = MeetsNoFault s.source
+CountsAs s other = MeetsNoFault s.source × MeetsNoFault s.sink
 
 -- ---- what a crash leaves
 

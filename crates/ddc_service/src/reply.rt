@@ -6,7 +6,7 @@ ghost use Rattle.ddc_model.specs.History.{broken_by};
 ghost use Rattle.ddc_book.specs.Calls.{got, whole};
 ghost use Rattle.ddc_protocol.specs.Replies.{json_reply, blob_reply, object_reply, identifier_body, needs_body, error_body, damaged_body, fault_reply};
 ghost use Rattle.ddc_http.specs.Heads.{text_of, code_text, IsAnswered, fault_text};
-ghost use Rattle.ddc_http.specs.Reader.{asked};
+ghost use Rattle.ddc_http.specs.Reader.{asked_item};
 ghost use Rattle.ddc_protocol.specs.Requests.{put_blob, get_blob, put_ref, get_ref, finalise};
 ghost use Rattle.ddc_service.specs.Effects.{effect};
 ghost use Rattle.ddc_service.specs.Replies.{upload_reply, needs_reply, get_reply, fetch_reply};
@@ -408,8 +408,8 @@ pub fn answer_request<D: Disk, W: Sink>(
     sink: &mut W,
 ) -> Turn
     requires unbroken { broken_by book.old.steps ≡ None }
-    requires fits { IsStorable (asked request) }
-    ensures gives { AnswersRequest D.tells D.meaning (effect W.written W.faults sink.old sink.new) close hour book.old (asked request) book.new result }
+    requires fits { IsStorable (asked_item request) }
+    ensures gives { AnswersRequest D.tells D.meaning (effect W.written W.faults sink.old sink.new) close hour book.old (asked_item request) book.new result }
 {
     let Request { ask } = request;
     match ask {

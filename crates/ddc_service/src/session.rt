@@ -7,8 +7,8 @@ ghost use Rattle.ddc_book.specs.Opening.{Opens};
 ghost use Rattle.ddc_book.specs.View.{faults_of, limits_of, line_of};
 ghost use Rattle.ddc_http.specs.Stream.{source_of, held_of, place_of, has_ended};
 ghost use Rattle.ddc_service.specs.Effects.{effect, Rises};
-ghost use Rattle.ddc_service.specs.Session.{store_of, session, OpensWithin, IsSession, HasRisen, Stops};
-ghost use Rattle.ddc_service.specs.inside.Turns.{TurnAs, reading};
+ghost use Rattle.ddc_service.specs.Session.{store_of, session, OpensWithin, IsSession, CountsAs, Stops};
+ghost use Rattle.ddc_service.specs.inside.Turns.{TurnAs, TurnCounts, reading};
 
 use crate::reply::{answer_fault, answer_request, written_turn};
 use ddc_book::Book;
@@ -67,11 +67,8 @@ fn take_turn<D: Disk, S: Source, W: Sink, C: Clock>(
     ensures devices { (book.new ≡ book.old) ⊎ GoesOn D.tells D.meaning book.old book.new }
     ensures limits { limits_of book.new ≡ limits_of book.old }
     ensures unbroken { result ≢ Turn.Over SessionEnd.DiskFailed → broken_by book.new.steps ≡ None }
-    ensures later_source { S.faults (source_of reader.old) ≤ S.faults (source_of reader.new) }
-    ensures later_sink { W.faults sink.old ≤ W.faults sink.new }
-    ensures read { result ≡ Turn.Over SessionEnd.ReadFailed → Rises (effect S.left S.faults (source_of reader.old) (source_of reader.new)) }
-    ensures write { result ≡ Turn.Over SessionEnd.WriteFailed → Rises (effect W.written W.faults sink.old sink.new) }
-    ensures disk { result ≡ Turn.Over SessionEnd.DiskFailed → Rises (effect store_of (faults_of D.meaning) book.old book.new) }
+    ensures counts { TurnCounts (effect S.left S.faults (source_of reader.old) (source_of reader.new)) (effect W.written W.faults sink.old sink.new) result }
+    ensures cause { result ≡ Turn.Over SessionEnd.DiskFailed → Rises (effect store_of (faults_of D.meaning) book.old book.new) }
 {
     match reader.next() {
         Ok(Some(request)) => answer_request(alloc, book, request, clock.hour(), close, sink),
@@ -115,7 +112,7 @@ fn serve_requests<D: Disk, S: Source, W: Sink, C: Clock>(
     ensures limits { limits_of book.new ≡ limits_of book.old }
     ensures unbroken { result ≢ SessionEnd.DiskFailed → broken_by book.new.steps ≡ None }
     ensures later_disk { faults_of D.meaning book.old ≤ faults_of D.meaning book.new }
-    ensures cause { HasRisen (session (C.tells clock.now) (effect S.left S.faults (source_of reader.old) (source_of reader.new)) (effect W.written W.faults sink.old sink.new) (effect store_of (faults_of D.meaning) book.old book.new)) result }
+    ensures counts { CountsAs (session (C.tells clock.now) (effect S.left S.faults (source_of reader.old) (source_of reader.new)) (effect W.written W.faults sink.old sink.new) (effect store_of (faults_of D.meaning) book.old book.new)) result }
 {
     'requests: for count in 0..MOST_ITEMS {
         match take_turn(alloc, reader, book, clock, count + 1 == MOST_ITEMS, sink) {
@@ -142,7 +139,7 @@ pub fn replay_session<D: Disk, S: Source, W: Sink, C: Clock>(
     ensures limits { limits_of book.new ≡ limits_of book.old }
     ensures unbroken { result ≢ SessionEnd.DiskFailed → broken_by book.new.steps ≡ None }
     ensures later_disk { faults_of D.meaning book.old ≤ faults_of D.meaning book.new }
-    ensures cause { HasRisen (session (C.tells clock.now) (effect S.left S.faults source.old source.new) (effect W.written W.faults sink.old sink.new) (effect store_of (faults_of D.meaning) book.old book.new)) result }
+    ensures counts { CountsAs (session (C.tells clock.now) (effect S.left S.faults source.old source.new) (effect W.written W.faults sink.old sink.new) (effect store_of (faults_of D.meaning) book.old book.new)) result }
 {
     match RequestReader::new(alloc, source) {
         Err(_) => SessionEnd::NoMemory,

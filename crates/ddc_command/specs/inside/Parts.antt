@@ -12,7 +12,7 @@ use Rattle.ddc_book.specs.Loading.{HasOpened}
 use Rattle.ddc_book.specs.View.{BookView, limits_of, line_of, faults_of}
 use Rattle.ddc_book.specs.declared.fault.OpenFault.{OpenFault}
 use Rattle.ddc_book.specs.declared.fault.OpenFault.TheVariants.{NotMade}
-use Rattle.ddc_service.specs.Effects.{Effect, Bytes}
+use Rattle.ddc_service.specs.Effects.{Effect, Bytes, IsUntouched}
 use Rattle.ddc_command.specs.declared.command.Command.{Command}
 use Rattle.ddc_command.specs.declared.command.Command.TheVariants.{Replay, Init}
 use Rattle.ddc_command.specs.declared.end.CommandEnd.{CommandEnd}
@@ -27,7 +27,7 @@ EndsFor s command end = (words : List (String Global)) → command_of words ≡ 
 -- what `init` does, whatever words ask for it, and whatever the clock and the source are
 abbrev pub EndsInit : {D : Type 0} → Bool → (D → Meaning) → Devices D → Devices D → Effect Bytes → List ℕ → ℕ → ℕ → CommandEnd → Type 0
 EndsInit tells meaning old new sink space ttl pin end =
-    (words : List (String Global)) (hour : Option ℕ) (source : Effect Bytes) → source.after ≡ source.before → command_of words ≡ Some (Init space ttl pin) → Ends (scene tells meaning old new hour source sink) words end
+    (words : List (String Global)) (hour : Option ℕ) (source : Effect Bytes) → IsUntouched source → command_of words ≡ Some (Init space ttl pin) → Ends (scene tells meaning old new hour source sink) words end
 
 abbrev pub is_unmade : OpenFault → Bool
 is_unmade NotMade = true

@@ -10,25 +10,19 @@ use Rattle.ddc_model.specs.Limits.{most_bytes}
 use Rattle.ddc_book.specs.View.{BookView, limits_of, faults_of}
 use Rattle.ddc_book.specs.Calls.{GoesOn}
 use Rattle.ddc_protocol.specs.Requests.{Item, put_blob, get_blob, put_ref, get_ref, finalise, mismatch, not_object}
+use Rattle.ddc_http.specs.Flows.{flow, WritesText}
 use Rattle.ddc_http.specs.declared.reply.WriteFault.{WriteFault}
 use Rattle.ddc_http.specs.declared.reply.WriteFault.TheVariants.{Failed, NoMemory}
 use Rattle.ddc_service.specs.declared.session.SessionEnd.TheVariants as ends
 use Rattle.ddc_service.specs.declared.session.Turn.{Turn}
 use Rattle.ddc_service.specs.declared.session.Turn.TheVariants.{Answered, Over}
-use Rattle.ddc_service.specs.Effects.{Effect, Bytes, effect, Rises}
+use Rattle.ddc_service.specs.Effects.{Effect, Bytes, effect, Rises, MeetsNoFault}
 use Rattle.ddc_service.specs.Replies.{OpenStore, IsReply, IsChange, failed_reply}
 use Rattle.ddc_service.specs.Session.{store_of}
 
 -- all of the text, a front of it where the sink failed, or nothing for want of memory
-abbrev pub Wrote : Effect Bytes → List ℕ → Result (Unit {0}) WriteFault → Type 0
-Wrote sink text (Ok u) = Appends sink.before sink.after text
-Wrote sink text (Err Failed) = AppendsFront sink.before sink.after text × Rises sink
-Wrote sink text (Err NoMemory) = Keeps sink.before sink.after
-
--- and the count of faults never falls
-pub record WritesAs (sink : Effect Bytes) (text : List ℕ) (result : Result (Unit {0}) WriteFault) : Type 0 where
-  pub wrote : Wrote sink text result
-  pub later : sink.faults_before ≤ sink.faults_after
+abbrev pub WritesAs : Effect Bytes → List ℕ → Result (Unit {0}) WriteFault → Type 0
+WritesAs sink text result = WritesText (flow sink.before sink.faults_before) (flow sink.after sink.faults_after) text result
 
 -- what an item stores is within the limits, and what is put under a reference is an object
 abbrev pub IsStorable : Item → Type 0
@@ -71,12 +65,18 @@ RequestEnds sink close hour store item next (Over ends.Damaged) = (text : List �
 RequestEnds sink close hour store item next (Over ends.NoMemory) = Keeps sink.before sink.after × ((next ≡ store) ⊎ ((text : List ℕ) × IsReply false close hour store item text next))
 RequestEnds sink close hour store item next other = ⊥
 
+-- the count of the sink's faults
+abbrev pub SinkCounts : Effect Bytes → Turn → Type 0
+SinkCounts sink (Over ends.WriteFailed) = (sink.faults_before ≤ sink.faults_after) × Rises sink
+SinkCounts sink (Over ends.DiskFailed) = sink.faults_before ≤ sink.faults_after
+SinkCounts sink (Over ends.Damaged) = sink.faults_before ≤ sink.faults_after
+SinkCounts sink other = MeetsNoFault sink
+
 -- and how the devices, the limits, the history and the counts of faults go on
 pub record AnswersRequest {D : Type 0} (tells : Bool) (meaning : D → Meaning) (sink : Effect Bytes) (close : Bool) (hour : ℕ) (book : BookView D) (item : Item) (next : BookView D) (turn : Turn) : Type 0 where
   pub turned : RequestEnds sink close hour (store_of book) item (store_of next) turn
   pub devices : (next ≡ book) ⊎ GoesOn tells meaning book next
   pub limits : limits_of next ≡ limits_of book
   pub unbroken : turn ≢ Over ends.DiskFailed → broken_by next.steps ≡ None
-  pub later : sink.faults_before ≤ sink.faults_after
-  pub write : turn ≡ Over ends.WriteFailed → Rises sink
+  pub counts : SinkCounts sink turn
   pub disk : turn ≡ Over ends.DiskFailed → Rises (effect store_of (faults_of meaning) book next)

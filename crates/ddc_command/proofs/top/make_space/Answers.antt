@@ -17,7 +17,7 @@ returns-in-Err-clause-ends g c = λ old found.
     let refused : StoreFault → Result (Unit {0}) StoreFault = λ f. Err f in
     refuses_space g.D.Disk.tells g.D.Disk.meaning old c.args.book c.args.space.now c.args.ttl c.args.pin found c.set_space.new.self c.set_space.ensures.goes_on
     (effect g.W.Sink.written g.W.Sink.faults c.args.sink.now c.args.sink.now)
-    c.in-Err.fault refl c.into_devices-in-Err.result c.into_devices-in-Err.ensures.devices c.into_devices-in-Err.ensures.opened c.in-Err.ensures.gives (λ e. c.in-Err.ensures.cause (ap refused e))
+    c.in-Err.fault (refl, refl) c.into_devices-in-Err.result c.into_devices-in-Err.ensures.devices c.into_devices-in-Err.ensures.opened c.in-Err.ensures.gives (λ e. c.in-Err.ensures.cause (ap refused e))
 
 pub returns-in-Ok-put_all-clause-ends : goal.returns-in-Ok-put_all-clause-ends
 returns-in-Ok-put_all-clause-ends g c = λ old found.
@@ -26,7 +26,7 @@ returns-in-Ok-put_all-clause-ends g c = λ old found.
     let P : List ℕ → Type 0 = λ t. Appends (g.W.Sink.written c.args.sink.now) (g.W.Sink.written c.put_all.new.sink) t in
     makes_space g.D.Disk.tells g.D.Disk.meaning old c.args.book c.args.space.now c.args.ttl c.args.pin found c.set_space.new.self c.set_space.ensures.goes_on
     (effect g.W.Sink.written g.W.Sink.faults c.args.sink.now c.put_all.new.sink)
-    c.into_devices-in-Ok-put_all.result c.into_devices-in-Ok-put_all.ensures.devices c.into_devices-in-Ok-put_all.ensures.opened c.in_default-set_space.ensures.gives (subst P text c.in-Ok-put_all.ensures.ok)
+    c.into_devices-in-Ok-put_all.result c.into_devices-in-Ok-put_all.ensures.devices c.into_devices-in-Ok-put_all.ensures.opened c.in_default-set_space.ensures.gives (subst P text c.in-Ok-put_all.ensures.ok) c.in-Ok-put_all.ensures.cause.same
 
 pub returns-clause-ends : goal.returns-clause-ends
 returns-clause-ends g c = λ old found.

@@ -14,6 +14,5 @@ returns g c =
     let P : Turn → Type 0 = λ turn. AnswersRequest g.D.Disk.tells g.D.Disk.meaning (effect g.W.Sink.written g.W.Sink.faults c.args.sink.now c.write_listed-written.new.sink) c.args.close c.args.hour c.args.book.now (finalise c.args.name.now c.args.hash) c.finalise-answer.new.self turn in
     record {
       gives = subst P (sym c.turn_of.ensures) (answers g.D.Disk.tells g.D.Disk.meaning (effect g.W.Sink.written g.W.Sink.faults c.args.sink.now c.write_listed-written.new.sink) c.args.close c.args.hour c.args.book.now c.finalise-answer.new.self c.requires.unbroken (inr c.finalise-answer.ensures.goes_on)
-          (finalise c.args.name.now c.args.hash) [] (WithRoom c.args.book.now.cache.index (past_of c.args.book.now.steps) (FinaliseAs c.args.book.now.cache.index c.args.name.now c.args.hash c.args.hour)) (needs_reply c.args.close)
-          (λ damaged text after h. h) (λ after h. h) c.finalise-answer.result c.write_listed-written.result refl c.finalise-answer.ensures.gives c.finalise-answer.ensures.cause c.write_listed-written.ensures.memory c.write_listed-written.ensures.gives);
+          (finalise c.args.name.now c.args.hash) c.finalise-answer.result c.write_listed-written.result refl c.finalise-answer.ensures.gives c.finalise-answer.ensures.cause c.write_listed-written.ensures.memory c.write_listed-written.ensures.gives);
     }

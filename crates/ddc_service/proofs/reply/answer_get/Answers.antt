@@ -16,8 +16,7 @@ returns g c =
     let P : Turn → Type 0 = λ turn. AnswersRequest g.D.Disk.tells g.D.Disk.meaning (effect g.W.Sink.written g.W.Sink.faults c.args.sink.now c.write_held-written.new.sink) c.args.close c.args.hour c.args.book.now (get_ref c.args.name.now) c.get_ref-answer.new.self turn in
     record {
       gives = subst P (got_turn c.get_ref-answer.result c.write_held-written.result ∙ sym c.turn_of.ensures) (answers g.D.Disk.tells g.D.Disk.meaning (effect g.W.Sink.written g.W.Sink.faults c.args.sink.now c.write_held-written.new.sink) c.args.close c.args.hour c.args.book.now c.get_ref-answer.new.self c.requires.unbroken (inr c.get_ref-answer.ensures.goes_on)
-          (get_ref c.args.name.now) [] (HeldAs c.args.book.now.cache (past_of c.args.book.now.steps) c.args.name.now c.args.hour) (get_reply c.args.close)
-          (λ damaged text after h. h) (λ after h. h) (got c.get_ref-answer.result) c.write_held-written.result refl
+          (get_ref c.args.name.now) (got c.get_ref-answer.result) c.write_held-written.result refl
           (got_gives c.args.book.now c.get_ref-answer.new.self (HeldAs c.args.book.now.cache (past_of c.args.book.now.steps) c.args.name.now c.args.hour) c.get_ref-answer.result c.get_ref-answer.ensures.gives)
           (λ e. c.get_ref-answer.ensures.cause (got_fault c.get_ref-answer.result DiskFailed e)) (λ e. c.write_held-written.ensures.memory (got_fault c.get_ref-answer.result NoMemory e)) c.write_held-written.ensures.gives);
     }

@@ -14,6 +14,5 @@ returns g c =
     let P : Turn → Type 0 = λ turn. AnswersRequest g.D.Disk.tells g.D.Disk.meaning (effect g.W.Sink.written g.W.Sink.faults c.args.sink.now c.write_listed-written.new.sink) c.args.close c.args.hour c.args.book.now (put_ref c.args.name c.args.object) c.put-answer.new.self turn in
     record {
       gives = subst P (sym c.turn_of.ensures) (answers g.D.Disk.tells g.D.Disk.meaning (effect g.W.Sink.written g.W.Sink.faults c.args.sink.now c.write_listed-written.new.sink) c.args.close c.args.hour c.args.book.now c.put-answer.new.self c.requires.unbroken (inr c.put-answer.ensures.goes_on)
-          (put_ref c.args.name c.args.object) c.args.object.bytes (WithRoom c.args.book.now.cache.index (past_of c.args.book.now.steps) (PutAs c.args.book.now.cache.index c.args.name c.args.object c.args.hour)) (needs_reply c.args.close)
-          (λ damaged text after h. h) (λ after h. h) c.put-answer.result c.write_listed-written.result refl c.put-answer.ensures.gives c.put-answer.ensures.cause c.write_listed-written.ensures.memory c.write_listed-written.ensures.gives);
+          (put_ref c.args.name c.args.object) c.put-answer.result c.write_listed-written.result refl c.put-answer.ensures.gives c.put-answer.ensures.cause c.write_listed-written.ensures.memory c.write_listed-written.ensures.gives);
     }

@@ -19,6 +19,5 @@ returns g c =
     let P : Turn → Type 0 = λ turn. AnswersRequest g.D.Disk.tells g.D.Disk.meaning (effect g.W.Sink.written g.W.Sink.faults c.args.sink.now c.write_uploaded-written.new.sink) c.args.close c.args.hour c.args.book.now (put_blob c.args.space c.args.blob) c.upload-answer.new.self turn in
     record {
       gives = subst P (sym c.turn_of.ensures) (answers g.D.Disk.tells g.D.Disk.meaning (effect g.W.Sink.written g.W.Sink.faults c.args.sink.now c.write_uploaded-written.new.sink) c.args.close c.args.hour c.args.book.now c.upload-answer.new.self c.requires.unbroken (inr c.upload-answer.ensures.goes_on)
-          (put_blob c.args.space c.args.blob) c.args.blob.bytes (WithRoom c.args.book.now.cache.index (past_of c.args.book.now.steps) (UploadAs c.args.book.now.cache.index c.args.space c.args.blob c.args.hour)) (upload_reply (content_hash c.args.blob.bytes) c.args.close)
-          (λ damaged text after h. h) (λ after h. h) c.upload-answer.result c.write_uploaded-written.result refl c.upload-answer.ensures.gives c.upload-answer.ensures.cause c.write_uploaded-written.ensures.memory (subst Q hash_is c.write_uploaded-written.ensures.gives));
+          (put_blob c.args.space c.args.blob) c.upload-answer.result c.write_uploaded-written.result refl c.upload-answer.ensures.gives c.upload-answer.ensures.cause c.write_uploaded-written.ensures.memory (subst Q hash_is c.write_uploaded-written.ensures.gives));
     }

@@ -1,4 +1,4 @@
-use Rattle.std.proofs.Common.{arith}
+use Rattle.std.proofs.Common.{◌∙◌, arith}
 use Rattle.std.proofs.KnownBytes.{Appends-trans}
 use Rattle.ddc_http.specs.Heads.{text_of}
 use Rattle.ddc_service.proofs.Writing.{front_more, front_after, rose_later}
@@ -6,29 +6,27 @@ use Rattle.ddc_service.proofs.reply.write_reply.Goals as goal
 
 pub returns-in-Ok-put_all : goal.returns-in-Ok-put_all
 returns-in-Ok-put_all g c = record {
-  gives = record {
-    wrote = Appends-trans (g.W.Sink.written c.args.sink.now) (g.W.Sink.written c.write_head.new.sink) (g.W.Sink.written c.put_all.new.sink) (text_of c.args.head.now) c.args.body.now
-        c.in-Ok.ensures.ok c.in-Ok-put_all.ensures.ok;
-    later = omega arith;
-  };
+  gives = (
+    Appends-trans (g.W.Sink.written c.args.sink.now) (g.W.Sink.written c.write_head.new.sink) (g.W.Sink.written c.put_all.new.sink) (text_of c.args.head.now) c.args.body.now
+        c.in-Ok.ensures.0 c.in-Ok-put_all.ensures.ok,
+    c.in-Ok.ensures.1 ∙ c.in-Ok-put_all.ensures.cause.same,
+  );
 }
 
 pub returns-in-Err : goal.returns-in-Err
-returns-in-Err g c = record {
-  gives = record {
-    wrote = (
-      front_after (g.W.Sink.written c.args.sink.now) (g.W.Sink.written c.write_head.new.sink) (g.W.Sink.written c.put_all.new.sink) (text_of c.args.head.now) c.args.body.now
-          c.in-Ok.ensures.ok c.in-Err.ensures.err,
-      rose_later (g.W.Sink.faults c.args.sink.now) (g.W.Sink.faults c.write_head.new.sink) (g.W.Sink.faults c.put_all.new.sink) (omega arith) c.in-Err.ensures.cause.failed,
-    );
-    later = omega arith;
-  };
-}
+returns-in-Err g c =
+    let same = c.in-Ok.ensures.1 in
+    let later = c.in-Err.ensures.cause.later in
+    record {
+      gives = (
+        front_after (g.W.Sink.written c.args.sink.now) (g.W.Sink.written c.write_head.new.sink) (g.W.Sink.written c.put_all.new.sink) (text_of c.args.head.now) c.args.body.now
+            c.in-Ok.ensures.0 c.in-Err.ensures.err,
+        omega (arith, same, later),
+        rose_later (g.W.Sink.faults c.args.sink.now) (g.W.Sink.faults c.write_head.new.sink) (g.W.Sink.faults c.put_all.new.sink) (omega (arith, same)) c.in-Err.ensures.cause.failed,
+      );
+    }
 
 pub returns-in-Err-Failed : goal.returns-in-Err-Failed
 returns-in-Err-Failed g c = record {
-  gives = record {
-    wrote = (front_more (g.W.Sink.written c.args.sink.now) (g.W.Sink.written c.write_head.new.sink) (text_of c.args.head.now) c.args.body.now (c.in-Err-Failed.ensures.failed (cc)), c.in-Err-Failed.ensures.cause (cc));
-    later = omega arith;
-  };
+  gives = (front_more (g.W.Sink.written c.args.sink.now) (g.W.Sink.written c.write_head.new.sink) (text_of c.args.head.now) c.args.body.now c.in-Err-Failed.ensures.0, c.in-Err-Failed.ensures.1, c.in-Err-Failed.ensures.2);
 }

@@ -2,7 +2,7 @@ use Rattle.std.proofs.Common.{◌≡◌, refl, rules}
 use Rattle.ddc_book.specs.View.{limits_of, line_of, faults_of}
 use Rattle.ddc_http.specs.Stream.{source_of}
 use Rattle.ddc_service.specs.Effects.{effect}
-use Rattle.ddc_service.specs.Session.{session, store_of, IsSession, HasRisen, Stops}
+use Rattle.ddc_service.specs.Session.{session, store_of, IsSession, CountsAs, Stops}
 use Rattle.ddc_service.proofs.Turning.{no_replies, on_source}
 use Rattle.ddc_service.proofs.Crashes.{crash_started}
 use Rattle.ddc_service.proofs.session.replay_session.Goals as goal
@@ -16,17 +16,14 @@ returns-in-Err-clause-any_moment g c = λ tells. crash_started g.D.Disk.meaning 
 pub returns-in-Ok-clause-gives : goal.returns-in-Ok-clause-gives
 returns-in-Ok-clause-gives g c =
     let first : source_of c.in-Ok.reader ≡ c.args.source.now = search rules in
-    let last : source_of c.serve_requests-end.new.reader ≡ c.exit.source = search rules in
-    on_source g.S.Source.left g.S.Source.faults c.args.source.now (source_of c.in-Ok.reader) (source_of c.serve_requests-end.new.reader) c.exit.source first last (λ source. IsSession (session (g.C.Clock.tells c.args.clock.now) source (effect g.W.Sink.written g.W.Sink.faults c.args.sink.now c.serve_requests-end.new.sink) (effect store_of (faults_of g.D.Disk.meaning) c.args.book.now c.serve_requests-end.new.book)) c.serve_requests-end.result) c.serve_requests-end.ensures.gives
+    on_source g.S.Source.left g.S.Source.faults c.args.source.now (source_of c.in-Ok.reader) (source_of c.serve_requests-end.new.reader) _ first (search rules) (λ source. IsSession (session (g.C.Clock.tells c.args.clock.now) source (effect g.W.Sink.written g.W.Sink.faults c.args.sink.now c.serve_requests-end.new.sink) (effect store_of (faults_of g.D.Disk.meaning) c.args.book.now c.serve_requests-end.new.book)) c.serve_requests-end.result) c.serve_requests-end.ensures.gives
 
 pub returns-in-Ok-clause-stops : goal.returns-in-Ok-clause-stops
 returns-in-Ok-clause-stops g c =
     let first : source_of c.in-Ok.reader ≡ c.args.source.now = search rules in
-    let last : source_of c.serve_requests-end.new.reader ≡ c.exit.source = search rules in
-    λ tells. on_source g.S.Source.left g.S.Source.faults c.args.source.now (source_of c.in-Ok.reader) (source_of c.serve_requests-end.new.reader) c.exit.source first last (λ source. Stops (session (g.C.Clock.tells c.args.clock.now) source (effect g.W.Sink.written g.W.Sink.faults c.args.sink.now c.serve_requests-end.new.sink) (effect store_of (faults_of g.D.Disk.meaning) c.args.book.now c.serve_requests-end.new.book)) (line_of g.D.Disk.meaning c.serve_requests-end.new.book) (limits_of c.args.book.now) c.serve_requests-end.result) (c.serve_requests-end.ensures.stops tells)
+    λ tells. on_source g.S.Source.left g.S.Source.faults c.args.source.now (source_of c.in-Ok.reader) (source_of c.serve_requests-end.new.reader) _ first (search rules) (λ source. Stops (session (g.C.Clock.tells c.args.clock.now) source (effect g.W.Sink.written g.W.Sink.faults c.args.sink.now c.serve_requests-end.new.sink) (effect store_of (faults_of g.D.Disk.meaning) c.args.book.now c.serve_requests-end.new.book)) (line_of g.D.Disk.meaning c.serve_requests-end.new.book) (limits_of c.args.book.now) c.serve_requests-end.result) (c.serve_requests-end.ensures.stops tells)
 
-pub returns-in-Ok-clause-cause : goal.returns-in-Ok-clause-cause
-returns-in-Ok-clause-cause g c =
+pub returns-in-Ok-clause-counts : goal.returns-in-Ok-clause-counts
+returns-in-Ok-clause-counts g c =
     let first : source_of c.in-Ok.reader ≡ c.args.source.now = search rules in
-    let last : source_of c.serve_requests-end.new.reader ≡ c.exit.source = search rules in
-    on_source g.S.Source.left g.S.Source.faults c.args.source.now (source_of c.in-Ok.reader) (source_of c.serve_requests-end.new.reader) c.exit.source first last (λ source. HasRisen (session (g.C.Clock.tells c.args.clock.now) source (effect g.W.Sink.written g.W.Sink.faults c.args.sink.now c.serve_requests-end.new.sink) (effect store_of (faults_of g.D.Disk.meaning) c.args.book.now c.serve_requests-end.new.book)) c.serve_requests-end.result) c.serve_requests-end.ensures.cause
+    on_source g.S.Source.left g.S.Source.faults c.args.source.now (source_of c.in-Ok.reader) (source_of c.serve_requests-end.new.reader) _ first (search rules) (λ source. CountsAs (session (g.C.Clock.tells c.args.clock.now) source (effect g.W.Sink.written g.W.Sink.faults c.args.sink.now c.serve_requests-end.new.sink) (effect store_of (faults_of g.D.Disk.meaning) c.args.book.now c.serve_requests-end.new.book)) c.serve_requests-end.result) c.serve_requests-end.ensures.counts

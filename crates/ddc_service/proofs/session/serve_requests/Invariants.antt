@@ -3,9 +3,8 @@ use Rattle.std.specs.Prelude.{IsTrue}
 use Rattle.ddc_disk.specs.Disk.{EachSince}
 use Rattle.ddc_model.specs.History.{broken_by}
 use Rattle.ddc_book.specs.View.{limits_of, line_of, faults_of}
-use Rattle.ddc_http.specs.Stream.{source_of, place_of, has_ended}
+use Rattle.ddc_http.specs.Stream.{source_of, ahead_of, place_of, has_ended}
 use Rattle.ddc_service.specs.Session.{store_of}
-use Rattle.ddc_service.specs.inside.Turns.{ahead_of}
 use Rattle.ddc_service.proofs.Crashes.{Within, OpensFirst}
 use Rattle.ddc_service.proofs.Runs.{SoFar}
 use Rattle.ddc_service.proofs.session.serve_requests.Given as goal
@@ -20,7 +19,7 @@ invariant-requests g l = record {
   unbroken : broken_by l.book.steps ≡ None;
   limits : limits_of l.book ≡ limits_of l.initial.book;
   same : l.reader.source.ghost_name ≡ l.initial.reader.source.ghost_name;
-  later_source : g.S.Source.faults (source_of l.initial.reader) ≤ g.S.Source.faults (source_of l.reader);
-  later_sink : g.W.Sink.faults l.initial.sink ≤ g.W.Sink.faults l.sink;
+  same_source : g.S.Source.faults (source_of l.initial.reader) ≡ g.S.Source.faults (source_of l.reader);
+  same_sink : g.W.Sink.faults l.initial.sink ≡ g.W.Sink.faults l.sink;
   later_disk : faults_of g.D.Disk.meaning l.initial.book ≤ faults_of g.D.Disk.meaning l.book;
 }

@@ -1,16 +1,12 @@
--- Numbers among the words.
+-- Times among the words.
 use Rattle.std.specs.Prelude.{◌≡◌, ℕ, List, Option, Some, None, true, if◌then◌else◌}
 use Rattle.std.specs.Str.Parse.{digits_value}
 use Rattle.ddc_model.specs.Entries.{is_time}
 use Rattle.ddc_command.specs.declared.command.Command.{Command}
 use Rattle.ddc_command.specs.declared.command.Command.TheVariants.{Replay, Init}
-use Rattle.ddc_command.specs.Words.{are_digits, are_hours}
+use Rattle.ddc_command.specs.Words.{are_hours}
 
--- the number that 1 to 10 digits write
-abbrev pub short_number : List ℕ → Option ℕ
-short_number text = if are_digits text then Some (digits_value 10 text) else None
-
--- the hours that they write
+-- the hours that a text writes
 abbrev pub hours : List ℕ → Option ℕ
 hours text = if are_hours text then Some (digits_value 10 text) else None
 
