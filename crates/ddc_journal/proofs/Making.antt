@@ -9,7 +9,7 @@ use Rattle.ddc_disk.specs.Disk.{Meaning, Rests, Torn, MayTear, IsCalm, Continues
 use Rattle.ddc_disk.specs.Since.{weaker, one_call}
 use Rattle.ddc_disk.specs.Told.{at_told}
 use Rattle.ddc_journal.specs.Journal.{header, generation_in, Loads, NotMadeOrEmpty, IsReady}
-use Rattle.ddc_journal.specs.Making.{NotMade, IsClosed, IsBlank}
+use Rattle.ddc_journal.specs.inside.Closing.{IsUnmade, IsClosed, IsBlank}
 use Rattle.ddc_journal.proofs.Parts.{torn_behind, written_behind, torn_gate, written_gate, torn_head, written_head}
 use Rattle.ddc_journal.proofs.Spelling.{shut}
 
@@ -18,13 +18,13 @@ and_no : (x y : Bool) → y ≡ false → (x && y) ≡ false
 and_no true y is = is
 and_no false y is = refl
 
-no_gate : (file : List ℕ) → ◌≢◌ {A = ℕ} (slice_index file 20) 1 → NotMade file
+no_gate : (file : List ℕ) → ◌≢◌ {A = ℕ} (slice_index file 20) 1 → IsUnmade file
 no_gate file other = ap (λ (b : Bool). b && not (generation_in file == 0)) (ne_eqb (slice_index file 20) 1 other)
 
-no_generation : (file : List ℕ) → generation_in file ≡ 0 → NotMade file
+no_generation : (file : List ℕ) → generation_in file ≡ 0 → IsUnmade file
 no_generation file none = and_no (slice_index file 20 == 1) (not (generation_in file == 0)) (ap (λ (n : ℕ). not (n == 0)) none)
 
-pub short : (file : List ℕ) → length file < 21 → NotMade file
+pub short : (file : List ℕ) → length file < 21 → IsUnmade file
 short file lt =
     let zero : slice_index file 20 ≡ 0 = get_or-eq_default file 0 (omega (arith, lt)) in
     no_gate file (λ e. absurd (omega (arith, e, zero)))
@@ -32,7 +32,7 @@ short file lt =
 gate_is : (front rest : List ℕ) (gate : ℕ) → length front ≡ 20 → slice_index (front ++ gate ∷ rest) 20 ≡ gate
 gate_is front rest gate size = get_or-append_right front (gate ∷ rest) 20 20 0 size (omega arith)
 
-pub at_gate : (front rest : List ℕ) (gate : ℕ) → length front ≡ 20 → gate ≢ 1 → NotMade (front ++ gate ∷ rest)
+pub at_gate : (front rest : List ℕ) (gate : ℕ) → length front ≡ 20 → gate ≢ 1 → IsUnmade (front ++ gate ∷ rest)
 at_gate front rest gate size closed = no_gate (front ++ gate ∷ rest) (λ e. closed (sym (gate_is front rest gate size) ∙ e))
 
 head_generation : (front rest : List ℕ) → length front ≡ 20 → generation_in (front ++ rest) ≡ from_le_bytes w64 (drop 12 front)
@@ -46,7 +46,7 @@ pub cut_size : (file : List ℕ) → 21 ≤ length file → length (take 20 file
 cut_size file le = length-take-le 20 file (omega (arith, le))
 
 -- a made file whose gate is 1 has a generation, so one that isn't made has none
-gate_one : (file : List ℕ) → slice_index file 20 ≡ 1 → NotMade file → generation_in file ≡ 0
+gate_one : (file : List ℕ) → slice_index file 20 ≡ 1 → IsUnmade file → generation_in file ≡ 0
 gate_one file is unmade = elim (cases_eq (generation_in file) 0) [
   | inl zero ↦ zero
   | inr other ↦
@@ -78,7 +78,7 @@ module _ (file : List ℕ) (lt : length file < 21) where
   abbrev zeros : List ℕ
   zeros = replicate {A = ℕ} 20 0
 
-  pub short_torn : (image : List ℕ) → Torn 0 20 file image → NotMade image
+  pub short_torn : (image : List ℕ) → Torn 0 20 file image → IsUnmade image
   short_torn image torn = short image (omega (arith, torn.no_longer, lt))
 
   zeros_first : take 20 (overwritten file 0 zeros) ≡ zeros
@@ -90,7 +90,7 @@ module _ (file : List ℕ) (lt : length file < 21) where
       none : 0 - length file ≡ 0
       none = omega arith
 
-  pub zeros_torn : (image : List ℕ) → Torn 20 1 (overwritten file 0 zeros) image → NotMade image
+  pub zeros_torn : (image : List ℕ) → Torn 20 1 (overwritten file 0 zeros) image → IsUnmade image
   zeros_torn image torn =
       let rest = torn.middle ++ drop 21 (overwritten file 0 zeros) in
       let whole : image ≡ zeros ++ rest = torn.parts ∙ ap (λ (l : List ℕ). l ++ torn.middle ++ drop 21 (overwritten file 0 zeros)) zeros_first ∙ append_assoc zeros torn.middle (drop 21 (overwritten file 0 zeros)) in
@@ -98,7 +98,7 @@ module _ (file : List ℕ) (lt : length file < 21) where
 
 -- the gate of a long file is closed
 module _ (file : List ℕ) (le : 21 ≤ length file) where
-  pub long_torn : slice_index file 20 ≡ 1 → NotMade file → (image : List ℕ) → Torn 20 1 file image → NotMade image
+  pub long_torn : slice_index file 20 ≡ 1 → IsUnmade file → (image : List ℕ) → Torn 20 1 file image → IsUnmade image
   long_torn is unmade image torn =
       let front = take 20 file in
       let other = torn_gate front (drop 21 file) (slice_index file 20) 20 (sym (cut_size file le)) file (cut file le) image torn in
@@ -128,8 +128,8 @@ module _ (old : Meaning) (generation : ℕ) (closed : IsClosed old) where
     size : length front ≡ 20
     split : image ≡ front ++ closed.gate ∷ rest
 
-  pub not_open : (image : List ℕ) → KeepsGate image → NotMade image
-  not_open image keeps = subst NotMade (sym keeps.split) (at_gate keeps.front keeps.rest closed.gate keeps.size closed.closed)
+  pub not_open : (image : List ℕ) → KeepsGate image → IsUnmade image
+  not_open image keeps = subst IsUnmade (sym keeps.split) (at_gate keeps.front keeps.rest closed.gate keeps.size closed.closed)
 
   pub head_torn : (image : List ℕ) → MayTear 0 20 old.line image → KeepsGate image
   head_torn image torn =
@@ -174,7 +174,7 @@ module _ (old : Meaning) (generation : ℕ) (is_blank : IsBlank old generation) 
       let other = torn_gate (header generation) (0 ∷ is_blank.rest) is_blank.gate 20 (sym size) blank_file refl image torn in
       elim (cases_eq other.0 1) [
         | inl is_one ↦ inr (empty image (other.1 ∙ ap (λ (k : ℕ). header generation ++ k ∷ 0 ∷ is_blank.rest) is_one))
-        | inr closed ↦ inl (subst NotMade (sym other.1) (at_gate (header generation) (0 ∷ is_blank.rest) other.0 size closed))
+        | inr closed ↦ inl (subst IsUnmade (sym other.1) (at_gate (header generation) (0 ∷ is_blank.rest) other.0 size closed))
       ]
 
   pub gate_ready : (new : Meaning) → IsSure new (overwritten blank_file 20 (1 ∷ [])) → IsReady new generation [] 21

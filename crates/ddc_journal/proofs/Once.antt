@@ -5,8 +5,8 @@ use Rattle.std.specs.Int.{to_le_bytes, from_le_bytes, w32}
 use Rattle.std.proofs.lemmas.Nat.{from_le_bytes-to_le_bytes_4, from_le_bytes-to_le_bytes_8}
 use Rattle.std.proofs.lemmas.List.{take_at, drop_at}
 use Rattle.ddc_journal.specs.Journal.{magic, framed, items, header, spelled, AreSized, Loads, version_in, generation_in, is_made}
-use Rattle.ddc_journal.specs.Faults.{HasNoItem, IsCorrupt}
-use Rattle.ddc_journal.specs.Laws.{OneLoading, LoadsOrFails, OneFault}
+use Rattle.ddc_journal.specs.Faults.{LacksItem, IsCorrupt}
+use Rattle.ddc_journal.specs.Laws.{OneLoading, LoadsOrFails, OneFileFault}
 use Rattle.ddc_journal.specs.declared.fault.JournalFault.TheVariants.{DiskFailed, NotMade, Corrupt, BadVersion, NoMemory}
 use Rattle.ddc_journal.proofs.Reading.{made}
 
@@ -33,12 +33,12 @@ starts (body ∷ bodies) gate rest = (1, framed body ++ items bodies ++ gate ∷
 split_first : (body : List ℕ) (bodies : List (List ℕ)) (tail : List ℕ) → items (body ∷ bodies) ++ tail ≡ 1 ∷ framed body ++ (items bodies ++ tail)
 split_first body bodies tail = ap (λ (l : List ℕ). 1 ∷ l) (append_assoc (framed body) (items bodies) tail)
 
-none_starts : (g : ℕ) (r body : List ℕ) (bodies : List (List ℕ)) (gate : ℕ) (rest : List ℕ) → length body < 2 ^ 32 → HasNoItem (g ∷ r) → g ∷ r ≡ items (body ∷ bodies) ++ gate ∷ rest → ⊥
+none_starts : (g : ℕ) (r body : List ℕ) (bodies : List (List ℕ)) (gate : ℕ) (rest : List ℕ) → length body < 2 ^ 32 → LacksItem (g ∷ r) → g ∷ r ≡ items (body ∷ bodies) ++ gate ∷ rest → ⊥
 none_starts g r body bodies gate rest small none e =
     let next = starts bodies gate rest in
     none body next.0 next.1 small (e ∙ split_first body bodies (gate ∷ rest) ∙ ap (λ (l : List ℕ). 1 ∷ framed body ++ l) next.2)
 
-same_items : (bs cs : List (List ℕ)) (g h : ℕ) (r s : List ℕ) → AreSized bs → AreSized cs → HasNoItem (g ∷ r) → HasNoItem (h ∷ s) → items bs ++ g ∷ r ≡ items cs ++ h ∷ s → (bs ≡ cs) × (g ∷ r ≡ h ∷ s)
+same_items : (bs cs : List (List ℕ)) (g h : ℕ) (r s : List ℕ) → AreSized bs → AreSized cs → LacksItem (g ∷ r) → LacksItem (h ∷ s) → items bs ++ g ∷ r ≡ items cs ++ h ∷ s → (bs ≡ cs) × (g ∷ r ≡ h ∷ s)
 same_items [] [] g h r s sized_b sized_c none_g none_h e = (refl, e)
 same_items [] (c ∷ cs) g h r s sized_b sized_c none_g none_h e = absurd (none_starts g r c cs h s sized_c.0 none_g e)
 same_items (b ∷ bs) [] g h r s sized_b sized_c none_g none_h e = absurd (none_starts h s b bs g r sized_b.0 none_h (sym e))
@@ -48,7 +48,7 @@ same_items (b ∷ bs) (c ∷ cs) g h r s sized_b sized_c none_g none_h e =
     let rest = same_items bs cs g h r s sized_b.1 sized_c.1 none_g none_h first.1 in
     ((λ i. first.0 i ∷ rest.0 i), rest.1)
 
-closed_none : (g : ℕ) (r : List ℕ) → g ≢ 1 → HasNoItem (g ∷ r)
+closed_none : (g : ℕ) (r : List ℕ) → g ≢ 1 → LacksItem (g ∷ r)
 closed_none g r closed body gate rest small e = closed (first_byte g 1 r (framed body ++ gate ∷ rest) e)
 
 -- what a file of this spelling has
@@ -121,7 +121,7 @@ known_version file at (inl x) known = absurd (x.1 known)
 known_version file at (inr (inl x)) known = x.1.1
 known_version file at (inr (inr x)) known = has_version file x.generation x.bodies 1 x.rest x.split
 
-pub one_fault : OneFault
+pub one_fault : OneFileFault
 one_fault file NotMade NotMade cx cy x y = refl
 one_fault file NotMade (Corrupt which at) cx cy x y = absurd (never (sym y.0 ∙ x))
 one_fault file NotMade (BadVersion found) cx cy x y = absurd (never (sym y.0 ∙ x))

@@ -6,7 +6,8 @@ use Rattle.std.proofs.Math.Seq.{take-add}
 use Rattle.std.proofs.lemmas.List.{get_or-append_right}
 use Rattle.std.proofs.lemmas.Bool.{ne_eqb}
 use Rattle.ddc_journal.specs.Journal.{magic, framed, items, header, generation_in, is_made}
-use Rattle.ddc_journal.specs.Faults.{FaultOf, ItemFault, IsOpen}
+use Rattle.ddc_journal.specs.Faults.{FaultOf}
+use Rattle.ddc_journal.specs.inside.Scanning.{ItemFault, IsOpen}
 use Rattle.ddc_journal.specs.declared.fault.JournalFault.{JournalFault}
 use Rattle.ddc_journal.specs.declared.fault.JournalFault.TheVariants.{DiskFailed, NotMade, Corrupt, BadVersion, NoMemory}
 use Rattle.ddc_journal.proofs.Making.{cut, header_size}

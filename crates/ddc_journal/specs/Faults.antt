@@ -5,8 +5,8 @@ use Rattle.ddc_journal.specs.declared.fault.JournalFault.{JournalFault}
 use Rattle.ddc_journal.specs.declared.fault.JournalFault.TheVariants.{DiskFailed, NotMade, Corrupt, BadVersion, NoMemory}
 
 -- no whole item stands at the front: an open gate, a length, a body of that length, the next gate
-abbrev pub HasNoItem : List ℕ → Type 0
-HasNoItem bytes = (body : List ℕ) (gate : ℕ) (rest : List ℕ) → length body < 2 ^ 32 → bytes ≡ 1 ∷ framed body ++ gate ∷ rest → ⊥
+abbrev pub LacksItem : List ℕ → Type 0
+LacksItem bytes = (body : List ℕ) (gate : ℕ) (rest : List ℕ) → length body < 2 ^ 32 → bytes ≡ 1 ∷ framed body ++ gate ∷ rest → ⊥
 
 -- behind whole items an open gate stands at this place, and its item isn't whole
 pub record BreaksAt (at : ℕ) (file : List ℕ) : Type 0 where
@@ -15,7 +15,7 @@ pub record BreaksAt (at : ℕ) (file : List ℕ) : Type 0 where
   pub rest : List ℕ
   pub split : file ≡ spelled generation bodies ++ 1 ∷ rest
   pub sized : AreSized bodies
-  pub broken : HasNoItem (1 ∷ rest)
+  pub broken : LacksItem (1 ∷ rest)
   pub place : at ≡ length (spelled generation bodies)
 
 -- the file begins as a journal of the known version does
@@ -33,38 +33,6 @@ FaultOf file (Corrupt which at) = (is_made file ≡ true) × (which ≡ 0) × Is
 FaultOf file (BadVersion found) = (is_made file ≡ true) × (take 8 file ≡ magic) × (found ≡ version_in file) × (found ≢ 0)
 FaultOf file DiskFailed = ⊥
 FaultOf file NoMemory = Unit {0}
-
--- behind these items stands a gate that isn't open; the first of the items stands at place 21
-pub record EndsAt (bodies : List (List ℕ)) (end : ℕ) (bytes : List ℕ) : Type 0 where
-  pub gate : ℕ
-  pub rest : List ℕ
-  pub closed : gate ≢ 1
-  pub split : bytes ≡ items bodies ++ gate ∷ rest
-  pub sized : AreSized bodies
-  pub place : end ≡ 21 + length (items bodies)
-
--- behind these items stands an open gate whose item isn't whole
-pub record BreaksIn (at : ℕ) (bytes : List ℕ) : Type 0 where
-  pub bodies : List (List ℕ)
-  pub rest : List ℕ
-  pub split : bytes ≡ items bodies ++ 1 ∷ rest
-  pub sized : AreSized bodies
-  pub broken : HasNoItem (1 ∷ rest)
-  pub place : at ≡ 21 + length (items bodies)
-
--- why items can't be read
-abbrev pub ItemFault : List ℕ → JournalFault → Type 0
-ItemFault bytes (Corrupt which at) = (which ≡ 0) × BreaksIn at bytes
-ItemFault bytes NoMemory = Unit {0}
-ItemFault bytes NotMade = ⊥
-ItemFault bytes (BadVersion found) = ⊥
-ItemFault bytes DiskFailed = ⊥
-
--- a journal's head with an open gate, and items behind it
-pub record IsOpen (bytes items : List ℕ) : Type 0 where
-  pub split : bytes ≡ header (generation_in bytes) ++ 1 ∷ items
-  pub numbered : (0 < generation_in bytes) × (generation_in bytes < 2 ^ 64)
-  pub some : 0 < length items
 
 -- the file loads as these bodies, with the closing gate at `end`
 abbrev pub LoadsAs : List ℕ → List (List ℕ) → ℕ → Type 0

@@ -14,5 +14,5 @@ abbrev pub LoadsOrFails : Type 0
 LoadsOrFails = (file : List ℕ) (generation : ℕ) (bodies : List (List ℕ)) (fault : JournalFault) → Loads generation bodies file → fault ≢ NoMemory → FaultOf file fault → ⊥
 
 -- a file has one fault
-abbrev pub OneFault : Type 0
-OneFault = (file : List ℕ) (fault other : JournalFault) → fault ≢ NoMemory → other ≢ NoMemory → FaultOf file fault → FaultOf file other → fault ≡ other
+abbrev pub OneFileFault : Type 0
+OneFileFault = (file : List ℕ) (fault other : JournalFault) → fault ≢ NoMemory → other ≢ NoMemory → FaultOf file fault → FaultOf file other → fault ≡ other

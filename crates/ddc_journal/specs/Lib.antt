@@ -1,4 +1,4 @@
 pub mod Journal
 pub mod Faults
-pub mod Making
 pub mod Laws
+pub mod inside

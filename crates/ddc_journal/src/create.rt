@@ -4,7 +4,7 @@ ghost use Rattle.std.specs.Prelude.{◌≡◌, ◌⊎◌, ◌<◌, ◌^◌, [], 
 ghost use Rattle.ddc_names.specs.Causes.{HasCause};
 ghost use Rattle.ddc_disk.specs.Disk.{EachSince, IsImage, IsSure};
 ghost use Rattle.ddc_journal.specs.Journal.{header, is_made, IsReady, NotMadeOrEmpty};
-ghost use Rattle.ddc_journal.specs.Making.{NotMade, IsClosed, IsBlank};
+ghost use Rattle.ddc_journal.specs.inside.Closing.{IsUnmade, IsClosed, IsBlank};
 ghost use Rattle.ddc_journal.specs.declared.fault.JournalFault.TheVariants.{DiskFailed};
 
 use crate::{Journal, JournalFault};
@@ -27,7 +27,7 @@ fn head(generation: u64) -> [u8; 20]
 // Closes a file that ends before its gate: first what stands before the gate is sure, and names no
 // generation.
 fn close_short<D: Disk>(disk: &mut D) -> Result<(), Failed>
-    ensures any_moment { (file : List ℕ) → IsSure (D.meaning disk.old) file → length file < 21 → EachSince (D.meaning disk.old).line (D.meaning disk.new).line NotMade }
+    ensures any_moment { (file : List ℕ) → IsSure (D.meaning disk.old) file → length file < 21 → EachSince (D.meaning disk.old).line (D.meaning disk.new).line IsUnmade }
     ensures closed { OnOk result ((file : List ℕ) → IsSure (D.meaning disk.old) file → length file < 21 → IsClosed (D.meaning disk.new)) }
     ensures past { EachSince (D.meaning disk.old).line (D.meaning disk.new).line (λ _. Unit {0}) }
     ensures cause { HasCause (D.meaning disk.old).faults (D.meaning disk.new).faults result }
@@ -39,7 +39,7 @@ fn close_short<D: Disk>(disk: &mut D) -> Result<(), Failed>
 
 // Closes a file that has a gate, where the gate is open.
 fn close_long<D: Disk>(disk: &mut D) -> Result<(), Failed>
-    ensures any_moment { (file : List ℕ) → IsSure (D.meaning disk.old) file → 21 ≤ length file → is_made file ≡ false → EachSince (D.meaning disk.old).line (D.meaning disk.new).line NotMade }
+    ensures any_moment { (file : List ℕ) → IsSure (D.meaning disk.old) file → 21 ≤ length file → is_made file ≡ false → EachSince (D.meaning disk.old).line (D.meaning disk.new).line IsUnmade }
     ensures closed { OnOk result ((file : List ℕ) → IsSure (D.meaning disk.old) file → 21 ≤ length file → IsClosed (D.meaning disk.new)) }
     ensures past { EachSince (D.meaning disk.old).line (D.meaning disk.new).line (λ _. Unit {0}) }
     ensures cause { HasCause (D.meaning disk.old).faults (D.meaning disk.new).faults result }
@@ -54,7 +54,7 @@ fn close_long<D: Disk>(disk: &mut D) -> Result<(), Failed>
 
 // Closes a file, so that it isn't made.
 fn close<D: Disk>(disk: &mut D) -> Result<(), Failed>
-    ensures any_moment { (file : List ℕ) → IsSure (D.meaning disk.old) file → is_made file ≡ false → EachSince (D.meaning disk.old).line (D.meaning disk.new).line NotMade }
+    ensures any_moment { (file : List ℕ) → IsSure (D.meaning disk.old) file → is_made file ≡ false → EachSince (D.meaning disk.old).line (D.meaning disk.new).line IsUnmade }
     ensures closed { OnOk result ((file : List ℕ) → IsSure (D.meaning disk.old) file → IsClosed (D.meaning disk.new)) }
     ensures past { EachSince (D.meaning disk.old).line (D.meaning disk.new).line (λ _. Unit {0}) }
     ensures cause { HasCause (D.meaning disk.old).faults (D.meaning disk.new).faults result }
@@ -69,7 +69,7 @@ fn close<D: Disk>(disk: &mut D) -> Result<(), Failed>
 
 // Writes all of an empty journal but its gate.
 fn write_blank<D: Disk>(disk: &mut D, generation: u64) -> Result<(), Failed>
-    ensures any_moment { IsClosed (D.meaning disk.old) → EachSince (D.meaning disk.old).line (D.meaning disk.new).line NotMade }
+    ensures any_moment { IsClosed (D.meaning disk.old) → EachSince (D.meaning disk.old).line (D.meaning disk.new).line IsUnmade }
     ensures blank { OnOk result (IsClosed (D.meaning disk.old) → IsBlank (D.meaning disk.new) generation) }
     ensures past { EachSince (D.meaning disk.old).line (D.meaning disk.new).line (λ _. Unit {0}) }
     ensures cause { HasCause (D.meaning disk.old).faults (D.meaning disk.new).faults result }

@@ -1,6 +1,6 @@
 //! The journal, and how a body is appended.
 
-ghost use Rattle.std.specs.Prelude.{◌≡◌, ◌++◌, ◌∷◌, ◌+◌, ◌<◌, ◌^◌, [], List, ℕ, length, OnOk, IfErr};
+ghost use Rattle.std.specs.Prelude.{◌≡◌, ◌++◌, ◌∷◌, ◌+◌, ◌<◌, ◌^◌, [], List, ℕ, length, OnOk, OnErr, IfErr};
 ghost use Rattle.ddc_names.specs.Causes.{HasCause};
 ghost use Rattle.ddc_disk.specs.Disk.{EachSince};
 ghost use Rattle.ddc_journal.specs.Journal.{framed, LoadsEither, IsReady};
@@ -59,6 +59,7 @@ impl Journal {
         ensures ready { OnOk result ((generation : ℕ) (bodies : List (List ℕ)) → IsReady (D.meaning disk.old) generation bodies self.old
             → IsReady (D.meaning disk.new) generation (bodies ++ item.now ∷ []) self.new) }
         ensures past { EachSince (D.meaning disk.old).line (D.meaning disk.new).line (λ _. Unit {0}) }
+        ensures kept { OnErr result (self.new ≡ self.old) }
         ensures failed { IfErr result (λ fault. fault ≡ DiskFailed) }
         ensures cause { HasCause (D.meaning disk.old).faults (D.meaning disk.new).faults result }
     {

@@ -1,6 +1,6 @@
 //! How a journal is loaded.
 
-ghost use Rattle.std.specs.Prelude.{◌≡◌, ◌⊎◌, ◌≤◌, IfErr, IfOk, IfSome};
+ghost use Rattle.std.specs.Prelude.{◌≡◌, ◌⊎◌, ◌≤◌, IfErr, IfOk, IfSome, OnOk};
 ghost use Rattle.ddc_names.specs.Causes.{Rose};
 ghost use Rattle.ddc_disk.specs.Disk.{EachSince, IsCalm, IsImage};
 ghost use Rattle.ddc_journal.specs.Journal.{generation_in, IsReady};
@@ -17,6 +17,7 @@ use std::alloc::Global;
 fn read_all<D: Disk>(alloc: Global, disk: &mut D) -> Result<Vec<u8>, JournalFault>
     ensures bytes { IfOk result (λ bytes. IfSome (D.meaning disk.old).held (λ file. bytes.items ≡ file)) }
     ensures fault { IfErr result (λ fault. ((fault ≡ DiskFailed) × Rose (D.meaning disk.old).faults (D.meaning disk.new).faults) ⊎ (fault ≡ NoMemory)) }
+    ensures same { OnOk result ((D.meaning disk.old).faults ≡ (D.meaning disk.new).faults) }
     ensures later { (D.meaning disk.old).faults ≤ (D.meaning disk.new).faults }
     ensures held { (D.meaning disk.new).held ≡ (D.meaning disk.old).held }
     ensures calm { IsCalm (D.meaning disk.old).line (D.meaning disk.new).line }
@@ -51,6 +52,7 @@ impl Journal {
         ensures ready { IfOk result (λ r. IfSome (D.meaning disk.old).held (λ file. IsReady (D.meaning disk.new) (generation_in file) r.1 r.0)) }
         ensures fault { IfErr result (λ fault. ((fault ≡ DiskFailed) × Rose (D.meaning disk.old).faults (D.meaning disk.new).faults) ⊎ IfSome (D.meaning disk.old).held (λ file. FaultOf file fault)) }
         ensures cause { IfErr result (λ fault. fault ≡ DiskFailed → Rose (D.meaning disk.old).faults (D.meaning disk.new).faults) }
+        ensures same { OnOk result ((D.meaning disk.old).faults ≡ (D.meaning disk.new).faults) }
         ensures later { (D.meaning disk.old).faults ≤ (D.meaning disk.new).faults }
         ensures held { (D.meaning disk.new).held ≡ (D.meaning disk.old).held }
         ensures past { EachSince (D.meaning disk.old).line (D.meaning disk.new).line (IsImage (D.meaning disk.old).line) }

@@ -3,7 +3,8 @@
 ghost use Rattle.std.specs.Prelude.{◌≡◌, ◌<◌, ◌≤◌, ◌^◌, ◌++◌, ◌∷◌, [], length, take, drop, slice_index, IfErr, IfNone, IfOk, IfSome, OnErr, OnOk};
 ghost use Rattle.std.specs.Int.{from_le_bytes, to_le_bytes, w32, w64};
 ghost use Rattle.ddc_journal.specs.Journal.{magic, framed, header, version_in, generation_in};
-ghost use Rattle.ddc_journal.specs.Faults.{FaultOf, HasNoItem, EndsAt, ItemFault, IsOpen, LoadsAs};
+ghost use Rattle.ddc_journal.specs.Faults.{FaultOf, LacksItem, LoadsAs};
+ghost use Rattle.ddc_journal.specs.inside.Scanning.{EndsAt, ItemFault, IsOpen};
 
 use crate::JournalFault;
 use ddc_names::{ByteList, NoMemory, Rows};
@@ -96,7 +97,7 @@ fn open_items(bytes: &[u8]) -> Result<&[u8], JournalFault>
 fn split_item(after: &[u8]) -> Option<(&[u8], &[u8])>
     ensures item { IfSome result (λ r. after.now ≡ framed r.0.now ++ r.1.now) }
     ensures sized { IfSome result (λ r. (length r.0.now < 2 ^ 32) × (0 < length r.1.now) × (length r.1.now < length after.now)) }
-    ensures none { IfNone result (HasNoItem (1 ∷ after.now)) }
+    ensures none { IfNone result (LacksItem (1 ∷ after.now)) }
 {
     let Some((length, tail)) = after.split_first_chunk::<4>() else {
         return None;

@@ -3,7 +3,7 @@ use Rattle.ddc_disk.specs.Disk.{IsImage, EachImage, IsSure}
 use Rattle.ddc_disk.specs.Since.{then_runs, one_call}
 use Rattle.ddc_disk.specs.Told.{at_told}
 use Rattle.ddc_journal.specs.Journal.{header, NotMadeOrEmpty}
-use Rattle.ddc_journal.specs.Making.{NotMade}
+use Rattle.ddc_journal.specs.inside.Closing.{IsUnmade}
 use Rattle.ddc_journal.proofs.Making.{sure_run, sure_after, gate_torn, gate_ready, header_size, if_told}
 use Rattle.ddc_journal.proofs.create.make.Goals as goal
 
@@ -22,7 +22,7 @@ returns-in_err-close-clause-any_moment g c pos fits = if_told (g.D.Disk.meaning 
     let first = one_call old.line s.line P (g.met.D.Disk.rests c.args.disk.now) (λ image now. inl now) c.sync.ensures.time (λ image now. inl (c.sync.ensures.calm image now)) in
     let closed_line = g.D.Disk.meaning c.close.new.disk in
     let sure_s : IsSure s file = record { held = c.sync.ensures.held ∙ held; only = at_told old.held (λ f. EachImage s.line (λ image. image ≡ f)) file held c.in_ok-sync.ensures.durable } in
-    then_runs old.line s.line closed_line.line P NotMade first (c.close.ensures.any_moment file sure_s unmade) (λ image is. inr (inl is)))
+    then_runs old.line s.line closed_line.line P IsUnmade first (c.close.ensures.any_moment file sure_s unmade) (λ image is. inr (inl is)))
 
 pub returns-in_err-write_blank-clause-any_moment : goal.returns-in_err-write_blank-clause-any_moment
 returns-in_err-write_blank-clause-any_moment g c pos fits = if_told (g.D.Disk.meaning c.args.disk.now).held _ (λ file held unmade.
@@ -32,10 +32,10 @@ returns-in_err-write_blank-clause-any_moment g c pos fits = if_told (g.D.Disk.me
     let first = one_call old.line s.line P (g.met.D.Disk.rests c.args.disk.now) (λ image now. inl now) c.sync.ensures.time (λ image now. inl (c.sync.ensures.calm image now)) in
     let closed_line = g.D.Disk.meaning c.close.new.disk in
     let sure_s : IsSure s file = record { held = c.sync.ensures.held ∙ held; only = at_told old.held (λ f. EachImage s.line (λ image. image ≡ f)) file held c.in_ok-sync.ensures.durable } in
-    let two = then_runs old.line s.line closed_line.line P NotMade first (c.close.ensures.any_moment file sure_s unmade) (λ image is. inr (inl is)) in
+    let two = then_runs old.line s.line closed_line.line P IsUnmade first (c.close.ensures.any_moment file sure_s unmade) (λ image is. inr (inl is)) in
     let b = g.D.Disk.meaning c.write_blank.new.disk in
     let closed = c.in_ok-close.ensures.closed file sure_s in
-    then_runs old.line closed_line.line b.line P NotMade two (c.write_blank.ensures.any_moment closed) (λ image is. inr (inl is)))
+    then_runs old.line closed_line.line b.line P IsUnmade two (c.write_blank.ensures.any_moment closed) (λ image is. inr (inl is)))
 
 pub returns-in_err-write_sure-clause-any_moment : goal.returns-in_err-write_sure-clause-any_moment
 returns-in_err-write_sure-clause-any_moment g c pos fits = if_told (g.D.Disk.meaning c.args.disk.now).held _ (λ file held unmade.
@@ -45,10 +45,10 @@ returns-in_err-write_sure-clause-any_moment g c pos fits = if_told (g.D.Disk.mea
     let first = one_call old.line s.line P (g.met.D.Disk.rests c.args.disk.now) (λ image now. inl now) c.sync.ensures.time (λ image now. inl (c.sync.ensures.calm image now)) in
     let closed_line = g.D.Disk.meaning c.close.new.disk in
     let sure_s : IsSure s file = record { held = c.sync.ensures.held ∙ held; only = at_told old.held (λ f. EachImage s.line (λ image. image ≡ f)) file held c.in_ok-sync.ensures.durable } in
-    let two = then_runs old.line s.line closed_line.line P NotMade first (c.close.ensures.any_moment file sure_s unmade) (λ image is. inr (inl is)) in
+    let two = then_runs old.line s.line closed_line.line P IsUnmade first (c.close.ensures.any_moment file sure_s unmade) (λ image is. inr (inl is)) in
     let b = g.D.Disk.meaning c.write_blank.new.disk in
     let closed = c.in_ok-close.ensures.closed file sure_s in
-    let three = then_runs old.line closed_line.line b.line P NotMade two (c.write_blank.ensures.any_moment closed) (λ image is. inr (inl is)) in
+    let three = then_runs old.line closed_line.line b.line P IsUnmade two (c.write_blank.ensures.any_moment closed) (λ image is. inr (inl is)) in
     let new = g.D.Disk.meaning c.write_sure.new.disk in
     let is_blank = c.in_ok-write_blank.ensures.blank closed in
     let size = header_size c.args.generation in
@@ -64,10 +64,10 @@ returns-clause-any_moment g c pos fits = if_told (g.D.Disk.meaning c.args.disk.n
     let first = one_call old.line s.line P (g.met.D.Disk.rests c.args.disk.now) (λ image now. inl now) c.sync.ensures.time (λ image now. inl (c.sync.ensures.calm image now)) in
     let closed_line = g.D.Disk.meaning c.close.new.disk in
     let sure_s : IsSure s file = record { held = c.sync.ensures.held ∙ held; only = at_told old.held (λ f. EachImage s.line (λ image. image ≡ f)) file held c.in_ok-sync.ensures.durable } in
-    let two = then_runs old.line s.line closed_line.line P NotMade first (c.close.ensures.any_moment file sure_s unmade) (λ image is. inr (inl is)) in
+    let two = then_runs old.line s.line closed_line.line P IsUnmade first (c.close.ensures.any_moment file sure_s unmade) (λ image is. inr (inl is)) in
     let b = g.D.Disk.meaning c.write_blank.new.disk in
     let closed = c.in_ok-close.ensures.closed file sure_s in
-    let three = then_runs old.line closed_line.line b.line P NotMade two (c.write_blank.ensures.any_moment closed) (λ image is. inr (inl is)) in
+    let three = then_runs old.line closed_line.line b.line P IsUnmade two (c.write_blank.ensures.any_moment closed) (λ image is. inr (inl is)) in
     let new = g.D.Disk.meaning c.write_sure.new.disk in
     let is_blank = c.in_ok-write_blank.ensures.blank closed in
     let size = header_size c.args.generation in

@@ -2,7 +2,7 @@ use Rattle.std.proofs.Common.{◌≡◌, length, List, ℕ, sym, ◌∙◌, ap, 
 use Rattle.std.specs.Prelude.{IfSome, Some}
 use Rattle.ddc_disk.specs.Disk.{IsImage, MayTear, overwritten}
 use Rattle.ddc_disk.specs.Since.{weaker, then_runs, tears_once}
-use Rattle.ddc_journal.specs.Making.{NotMade}
+use Rattle.ddc_journal.specs.inside.Closing.{IsUnmade}
 use Rattle.ddc_journal.proofs.Making.{not_open, head_torn, tail_torn, blank}
 use Rattle.ddc_journal.proofs.create.write_blank.Goals as goal
 
@@ -12,7 +12,7 @@ returns-in_err-write_at-clause-any_moment g c closed =
     let mid = g.D.Disk.meaning c.write_at.new.self in
     let size : length c.head.result ≡ 20 = search rules in
     let crash = subst (λ (n : ℕ). (image : List ℕ) → IsImage mid.line image → MayTear 0 n old.line image) size c.write_at.ensures.crash in
-    let first = weaker old.line mid.line (MayTear 0 20 old.line) NotMade (tears_once old.line mid.line 0 20 (g.met.D.Disk.rests c.args.disk.now) crash c.write_at.ensures.time) (λ image torn. not_open old c.args.generation closed image (head_torn old c.args.generation closed image torn)) in
+    let first = weaker old.line mid.line (MayTear 0 20 old.line) IsUnmade (tears_once old.line mid.line 0 20 (g.met.D.Disk.rests c.args.disk.now) crash c.write_at.ensures.time) (λ image torn. not_open old c.args.generation closed image (head_torn old c.args.generation closed image torn)) in
     first
 
 pub returns-in_err-write_sure-clause-any_moment : goal.returns-in_err-write_sure-clause-any_moment
@@ -21,11 +21,11 @@ returns-in_err-write_sure-clause-any_moment g c closed =
     let mid = g.D.Disk.meaning c.write_at.new.self in
     let size : length c.head.result ≡ 20 = search rules in
     let crash = subst (λ (n : ℕ). (image : List ℕ) → IsImage mid.line image → MayTear 0 n old.line image) size c.write_at.ensures.crash in
-    let first = weaker old.line mid.line (MayTear 0 20 old.line) NotMade (tears_once old.line mid.line 0 20 (g.met.D.Disk.rests c.args.disk.now) crash c.write_at.ensures.time) (λ image torn. not_open old c.args.generation closed image (head_torn old c.args.generation closed image torn)) in
+    let first = weaker old.line mid.line (MayTear 0 20 old.line) IsUnmade (tears_once old.line mid.line 0 20 (g.met.D.Disk.rests c.args.disk.now) crash c.write_at.ensures.time) (λ image torn. not_open old c.args.generation closed image (head_torn old c.args.generation closed image torn)) in
     let new = g.D.Disk.meaning c.write_sure.new.disk in
-    let second = weaker mid.line new.line (MayTear 21 1 mid.line) NotMade c.write_sure.ensures.any_moment
+    let second = weaker mid.line new.line (MayTear 21 1 mid.line) IsUnmade c.write_sure.ensures.any_moment
     (λ image torn. not_open old c.args.generation closed image (tail_torn old c.args.generation closed torn.0 image (head_torn old c.args.generation closed torn.0 (crash torn.0 torn.1)) torn.2)) in
-    then_runs old.line mid.line new.line NotMade NotMade first second (λ image is. is)
+    then_runs old.line mid.line new.line IsUnmade IsUnmade first second (λ image is. is)
 
 pub returns-clause-any_moment : goal.returns-clause-any_moment
 returns-clause-any_moment g c closed =
@@ -33,11 +33,11 @@ returns-clause-any_moment g c closed =
     let mid = g.D.Disk.meaning c.write_at.new.self in
     let size : length c.head.result ≡ 20 = search rules in
     let crash = subst (λ (n : ℕ). (image : List ℕ) → IsImage mid.line image → MayTear 0 n old.line image) size c.write_at.ensures.crash in
-    let first = weaker old.line mid.line (MayTear 0 20 old.line) NotMade (tears_once old.line mid.line 0 20 (g.met.D.Disk.rests c.args.disk.now) crash c.write_at.ensures.time) (λ image torn. not_open old c.args.generation closed image (head_torn old c.args.generation closed image torn)) in
+    let first = weaker old.line mid.line (MayTear 0 20 old.line) IsUnmade (tears_once old.line mid.line 0 20 (g.met.D.Disk.rests c.args.disk.now) crash c.write_at.ensures.time) (λ image torn. not_open old c.args.generation closed image (head_torn old c.args.generation closed image torn)) in
     let new = g.D.Disk.meaning c.write_sure.new.disk in
-    let second = weaker mid.line new.line (MayTear 21 1 mid.line) NotMade c.write_sure.ensures.any_moment
+    let second = weaker mid.line new.line (MayTear 21 1 mid.line) IsUnmade c.write_sure.ensures.any_moment
     (λ image torn. not_open old c.args.generation closed image (tail_torn old c.args.generation closed torn.0 image (head_torn old c.args.generation closed torn.0 (crash torn.0 torn.1)) torn.2)) in
-    then_runs old.line mid.line new.line NotMade NotMade first second (λ image is. is)
+    then_runs old.line mid.line new.line IsUnmade IsUnmade first second (λ image is. is)
 
 pub returns-clause-blank : goal.returns-clause-blank
 returns-clause-blank g c closed =

@@ -3,8 +3,8 @@ use Rattle.std.specs.Prelude.{◌≡◌, ◌≢◌, ℕ, false, List, ◌∷◌,
 use Rattle.ddc_disk.specs.Disk.{Meaning, IsSure}
 use Rattle.ddc_journal.specs.Journal.{header, is_made}
 
-abbrev pub NotMade : List ℕ → Type 0
-NotMade file = is_made file ≡ false
+abbrev pub IsUnmade : List ℕ → Type 0
+IsUnmade file = is_made file ≡ false
 
 -- 20 bytes and a gate that isn't open stand at the front, and the disk is sure of its file
 pub record IsClosed (disk : Meaning) : Type 0 where
