@@ -29,11 +29,7 @@ fn empty(alloc: Global) -> Devices<MemDisk> {
 
 fn source_of(alloc: Global, input: &[u8]) -> Result<MemSource, NoMemory> {
     let bytes = Vec::from_slice(alloc, input)?;
-    Ok(MemSource::new(
-        Rows::of_vec(bytes),
-        Rows::new(alloc),
-        Rows::new(alloc),
-    ))
+    Ok(MemSource::new(Rows::of_vec(bytes), Rows::new(alloc), Rows::new(alloc)))
 }
 
 // How a session on an empty store ended, or None where there was no store.
