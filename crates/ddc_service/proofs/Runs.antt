@@ -225,7 +225,7 @@ module _ (s : Session) (here : Ahead) (held : List ℕ) (mid : Bytes) (faults : 
   ends NoMemory (kept, inr (more, (item, took, answers))) = (far.text, Appends-kept s.sink.before mid s.sink.after far.text far.wrote kept, inr (more, one_more item took false more answers))
 
 -- as many turns as there may be
-pub spends : (s : Session) (ahead : Bytes) (place : ℕ) → SoFar s.hour s.source.before here s.sink.before s.sink.after s.store.before s.store.after 10000 place → IsSession s (Spent place)
+pub spends : (s : Session) (here : Ahead) (place : ℕ) → SoFar s.hour s.source.before here s.sink.before s.sink.after s.store.before s.store.after 10000 place → IsSession s (Spent place)
 spends s here place far = (
   far.items,
   far.text,

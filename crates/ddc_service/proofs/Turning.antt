@@ -101,7 +101,7 @@ module _ {S W : Type 0} (left : S → Bytes) (source_faults : S → ℕ) (writte
   ends_counts WriteFailed (s, (later, w)) disk = (read ∙ s, rose_later (sink_faults start) (sink_faults mid) (sink_faults end) (omega (arith, wrote)) w)
   ends_counts DiskFailed (s, w) disk = (read ∙ s, disk refl)
   ends_counts Damaged (s, w) disk = read ∙ s
-  ends_counts NoMemory (s, w) disk = (read ∙ s, wrote ∙ w)
+  ends_counts NoMemory (s, w) disk = wrote ∙ w
 
 -- the same of a source that was lent and came back
 pub on_source : {S : Type 0} (left : S → Bytes) (faults : S → ℕ) (old lent back new : S) → lent ≡ old → back ≡ new → (P : Effect Bytes → Type 0) → P (effect left faults lent back) → P (effect left faults old new)

@@ -99,12 +99,13 @@ IsSession s Damaged = (text : List ℕ) × (more : List ℕ) × OneMore s.hour s
 IsSession s NoMemory = FirstReplies s
 
 -- the counts of faults, which rise only where that is why the session ends. Where a disk failed or a blob is damaged, the sink
--- may have failed too as that was written
+-- may have failed too as that was written. Nothing is said of a source for which there was no memory
 abbrev pub CountsAs : Session → SessionEnd → Type 0
 CountsAs s ReadFailed = Rises s.source × MeetsNoFault s.sink
 CountsAs s WriteFailed = MeetsNoFault s.source × Rises s.sink
 CountsAs s DiskFailed = MeetsNoFault s.source × Rises s.store
 CountsAs s Damaged = MeetsNoFault s.source
+CountsAs s NoMemory = MeetsNoFault s.sink
 CountsAs s other = MeetsNoFault s.source × MeetsNoFault s.sink
 
 -- ---- what a crash leaves

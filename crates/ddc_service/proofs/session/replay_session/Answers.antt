@@ -22,7 +22,7 @@ returns-in-Ok-clause-gives g c =
 pub returns-in-Ok-clause-stops : goal.returns-in-Ok-clause-stops
 returns-in-Ok-clause-stops g c =
     let first : source_of c.in-Ok.reader ≡ c.args.source.now = search rules in
-    on_source g.S.Source.left g.S.Source.faults c.args.source.now (source_of c.in-Ok.reader) (source_of c.serve_requests-end.new.reader) _ first (search rules) (λ source. IsTrue g.D.Disk.tells → Stops (session (g.C.Clock.tells c.args.clock.now) source (effect g.W.Sink.written g.W.Sink.faults c.args.sink.now c.serve_requests-end.new.sink) (effect store_of (faults_of g.D.Disk.meaning) c.args.book.now c.serve_requests-end.new.book)) (line_of g.D.Disk.meaning c.serve_requests-end.new.book) (limits_of c.args.book.now) c.serve_requests-end.result) c.serve_requests-end.ensures.stops
+    on_source g.S.Source.left g.S.Source.faults c.args.source.now (source_of c.in-Ok.reader) (source_of c.serve_requests-end.new.reader) c.finish-source.result.now first (search rules) (λ source. IsTrue g.D.Disk.tells → Stops (session (g.C.Clock.tells c.args.clock.now) source (effect g.W.Sink.written g.W.Sink.faults c.args.sink.now c.serve_requests-end.new.sink) (effect store_of (faults_of g.D.Disk.meaning) c.args.book.now c.serve_requests-end.new.book)) (line_of g.D.Disk.meaning c.serve_requests-end.new.book) (limits_of c.args.book.now) c.serve_requests-end.result) c.serve_requests-end.ensures.stops
 
 pub returns-in-Ok-clause-counts : goal.returns-in-Ok-clause-counts
 returns-in-Ok-clause-counts g c =
@@ -30,4 +30,4 @@ returns-in-Ok-clause-counts g c =
     on_source g.S.Source.left g.S.Source.faults c.args.source.now (source_of c.in-Ok.reader) (source_of c.serve_requests-end.new.reader) _ first (search rules) (λ source. CountsAs (session (g.C.Clock.tells c.args.clock.now) source (effect g.W.Sink.written g.W.Sink.faults c.args.sink.now c.serve_requests-end.new.sink) (effect store_of (faults_of g.D.Disk.meaning) c.args.book.now c.serve_requests-end.new.book)) c.serve_requests-end.result) c.serve_requests-end.ensures.counts
 
 pub returns-in-Err-clause-counts : goal.returns-in-Err-clause-counts
-returns-in-Err-clause-counts g c = (refl, refl)
+returns-in-Err-clause-counts g c = refl
