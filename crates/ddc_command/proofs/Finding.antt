@@ -129,10 +129,12 @@ module _ {D : Type 0} (tells : Bool) (meaning : D → Meaning) (old : Devices D)
         ttl,
         pin,
         form,
-        (still, (refl, refl)),
-        unmade,
-        creates_from new creates,
-        ⊎_elim (λ failed. inl (failed.0, rose_later (devices_faults meaning old) (devices_faults meaning mid) (devices_faults meaning new) back.later failed.1)) (λ memory. inr memory) cause,
+        (
+          (still, (refl, refl)),
+          unmade,
+          creates_from new creates,
+          ⊎_elim (λ failed. inl (failed.0, rose_later (devices_faults meaning old) (devices_faults meaning mid) (devices_faults meaning new) back.later failed.1)) (λ memory. inr memory) cause,
+        ),
       );
       not_usage = open_not_1 why;
     }

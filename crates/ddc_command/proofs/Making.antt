@@ -77,9 +77,11 @@ module _ {D : Type 0} (tells : Bool) (meaning : D → Meaning) (old : Devices D)
         ttl,
         pin,
         form,
-        (still, (refl, refl)),
-        start,
-        (found.held, λ starts. subst P (sym same) (opening None starts), λ starts im is. let Q : Limits → Type 0 = λ l. Opens l im start in subst Q found.limits_are (closes starts.0 unbroken im is)),
+        (
+          (still, (refl, refl)),
+          start,
+          (found.held, λ starts. subst P (sym same) (opening None starts), λ starts im is. let Q : Limits → Type 0 = λ l. Opens l im start in subst Q found.limits_are (closes starts.0 unbroken im is)),
+        ),
       )
 
   module _ (next : BookView D) (goes : GoesOn tells meaning book next) where
@@ -124,10 +126,10 @@ module _ {D : Type 0} (tells : Bool) (meaning : D → Meaning) (old : Devices D)
           (still, start, made, asks hour source (Ok tt) made answered is, leaves hour source made closes (becomes_unbroken book next made unbroken becomes) is (inr (space_made start.index space ttl pin made answered)))
 
       made_next : Closes next.devices → Answer (Ok tt) → Appends sink.before sink.after (made_line space ttl pin) → MeetsNoFault sink → EndsInit tells meaning old next.devices sink space ttl pin Made
-      made_next closes answer told same words hour source still form = (space, ttl, pin, form, makes hour source still closes answer, told, same)
+      made_next closes answer told same words hour source still form = (space, ttl, pin, form, (makes hour source still closes answer, told, same))
 
       untold_next : Closes next.devices → Answer (Ok tt) → AppendsFront sink.before sink.after (made_line space ttl pin) → Rises sink → EndsInit tells meaning old next.devices sink space ttl pin Untold
-      untold_next closes answer told rose words hour source still form = (space, ttl, pin, form, makes hour source still closes answer, told, rose)
+      untold_next closes answer told rose words hour source still form = (space, ttl, pin, form, (makes hour source still closes answer, told, rose))
 
       -- a refusal that no namespace gets
       never : (fault : StoreFault) (made : Option Entry) → WithRoom start.index (past_of book.steps) (SpaceAs start.index space ttl pin) (Err fault) made → IsFull fault
@@ -157,7 +159,7 @@ module _ {D : Type 0} (tells : Bool) (meaning : D → Meaning) (old : Devices D)
       lacks hour source (faults.Damaged name hash) closes (_, made, answers, becomes) cause = cc (never (faults.Damaged name hash) made answers).2
 
       unmade_next : (fault : StoreFault) → IsUntouched sink → Closes next.devices → Answer (Err fault) → (fault ≡ faults.DiskFailed → Rose (faults_of meaning book) (faults_of meaning next)) → EndsInit tells meaning old next.devices sink space ttl pin (Unmade fault)
-      unmade_next fault quiet closes answer cause words hour source still form = (space, ttl, pin, form, (still, quiet), start, lacks hour source fault closes answer cause)
+      unmade_next fault quiet closes answer cause words hour source still form = (space, ttl, pin, form, ((still, quiet), start, lacks hour source fault closes answer cause))
 
       pub makes_space : (new : Devices D) → new ≡ next.devices → Closes new → Answer (Ok tt) → Appends sink.before sink.after (made_line space ttl pin) → MeetsNoFault sink → EndsInit tells meaning old new sink space ttl pin Made
       makes_space new same closes answer told still =
