@@ -10,6 +10,7 @@ use std::mem;
 
 /// The most bytes that are printed whole, and how many of a longer text.
 const MOST_SHOWN: usize = 16_384;
+
 const LAST_SHOWN: usize = 128;
 
 // What a run reads and writes.

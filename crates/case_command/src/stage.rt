@@ -71,12 +71,7 @@ pub fn set(alloc: Global, stage: &mut Stage, call: &str, rest: &str) -> Result<b
 }
 
 // Changes the input as a line says, and whether it says that.
-fn lengthen(
-    alloc: Global,
-    input: &mut Vec<u8>,
-    call: &str,
-    rest: &str,
-) -> Result<bool, NoMemory> {
+fn lengthen(alloc: Global, input: &mut Vec<u8>, call: &str, rest: &str) -> Result<bool, NoMemory> {
     match call {
         "ask" => push_request(alloc, input, rest, "", &[])?,
         "put" => push_put(alloc, input, rest)?,
