@@ -86,7 +86,8 @@ fn columns(input: &[u8], at: usize) -> [u32x4; 16]
 // CHUNK_START for the first block of a chunk.
 #[inline(always)]
 pub(crate) fn start_flag(k: usize) -> u32
-    ensures { result ≡ start_flag k }
+    ensures value { result ≡ start_flag k }
+    ensures small { result ≤ 1 }
 {
     if k == 0 { 1 } else { 0 }
 }

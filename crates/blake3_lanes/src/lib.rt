@@ -2,6 +2,8 @@
 //! `blake3_hash`. No call takes memory.
 #![tactic(auto)]
 
+mod block;
+mod chunk;
 mod chunks;
 mod eight;
 mod kernel;

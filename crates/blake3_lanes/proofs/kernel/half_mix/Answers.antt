@@ -7,7 +7,7 @@ use Rattle.blake3_lanes.proofs.kernel.half_mix.Goals as goal
 
 pub returns : goal.returns
 unfolding half_mix
-returns c j h =
+returns g c j h =
     let v : List (List ℕ) = c.args.v.now in
     let v1 : List (List ℕ) = slice_set v c.args.a c.add-2.result in
     let v2 : List (List ℕ) = slice_set v1 c.args.d c.xor_rotate.result in
