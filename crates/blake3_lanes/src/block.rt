@@ -1,7 +1,7 @@
 // The compression of one block (BLAKE3 specification, section 2.2): a row of the state, four words, is a vector, so that
 // its four columns are mixed side by side.
 ghost use Rattle.std.specs.Prelude.{◌≡◌, ℕ, ◌+◌, ◌<◌, ◌%◌, [], ◌∷◌, length, slice_index};
-ghost use Rattle.tree_hash.specs.TreeHash.{block_words, compress, folded, iv, mix, permute, round, rounds, start_state};
+ghost use Rattle.tree_hash.specs.TreeHash.{block_words, compress, folded, iv, mix, permute, round, start_state};
 ghost use Rattle.blake3_lanes.specs.Lanes.{lane};
 ghost use Rattle.blake3_lanes.specs.inside.Rows.{diagonal, four_rows, message_of, two_rows};
 
@@ -130,26 +130,6 @@ fn folded(v: &[u32x4; 4]) -> [u32x4; 2]
     [xor(v[0], v[2]), xor(v[1], v[3])]
 }
 
-// The seven rounds, each with the message that the one before has permuted.
-#[inline(always)]
-fn rounds(hidden: &Hidden, v: &[u32x4; 4], m: &[u32x4; 4]) -> [u32x4; 4]
-    ensures { four_rows result ≡ rounds 7 (four_rows v.now) (message_of m.now) }
-{
-    let v = round(hidden, v, m);
-    let m = permute(m[0], m[1], m[2], m[3]);
-    let v = round(hidden, &v, &m);
-    let m = permute(m[0], m[1], m[2], m[3]);
-    let v = round(hidden, &v, &m);
-    let m = permute(m[0], m[1], m[2], m[3]);
-    let v = round(hidden, &v, &m);
-    let m = permute(m[0], m[1], m[2], m[3]);
-    let v = round(hidden, &v, &m);
-    let m = permute(m[0], m[1], m[2], m[3]);
-    let v = round(hidden, &v, &m);
-    let m = permute(m[0], m[1], m[2], m[3]);
-    round(hidden, &v, &m)
-}
-
 // The compression of a block from the value `h` on.
 #[inline(always)]
 pub(crate) fn compress(
@@ -164,7 +144,21 @@ pub(crate) fn compress(
     ensures { two_rows result ≡ compress (two_rows h.now) block.now number len flags }
 {
     let v = start_state(h, number, len, flags);
-    folded(&rounds(hidden, &v, &message(block)))
+    let m = message(block);
+    let v = round(hidden, &v, &m);
+    let m = permute(m[0], m[1], m[2], m[3]);
+    let v = round(hidden, &v, &m);
+    let m = permute(m[0], m[1], m[2], m[3]);
+    let v = round(hidden, &v, &m);
+    let m = permute(m[0], m[1], m[2], m[3]);
+    let v = round(hidden, &v, &m);
+    let m = permute(m[0], m[1], m[2], m[3]);
+    let v = round(hidden, &v, &m);
+    let m = permute(m[0], m[1], m[2], m[3]);
+    let v = round(hidden, &v, &m);
+    let m = permute(m[0], m[1], m[2], m[3]);
+    let v = round(hidden, &v, &m);
+    folded(&v)
 }
 
 // The words IV.

@@ -1,4 +1,4 @@
-use Rattle.std.proofs.Common.{refl, arith}
+use Rattle.std.proofs.Common.{refl}
 use Rattle.tree_hash.specs.TreeHash.{round}
 use Rattle.blake3_lanes.specs.Lanes.{mix_columns, mix_diagonals}
 use Rattle.blake3_lanes.proofs.Rows.{columns_mixed, diagonals_mixed}

@@ -1,4 +1,4 @@
-use Rattle.std.proofs.Common.{ℕ, List, arith, sym, ◌∙◌}
+use Rattle.std.proofs.Common.{arith, sym}
 use Rattle.blake3_lanes.proofs.LaneLemmas.{below_four}
 use Rattle.blake3_lanes.proofs.Rows.{lane_four}
 use Rattle.blake3_lanes.proofs.block.turned_back.Goals as goal
