@@ -1,7 +1,7 @@
 -- A round on four rows: G on the columns, and on the columns of rows that were turned.
 use Rattle.std.proofs.Common.{◌≡◌, ℕ, ◌<◌, List, [], ◌∷◌, length, slice_index, arith, refl, ap, ◌∙◌}
 use Rattle.tree_hash.specs.TreeHash.{half_mix, mix}
-use Rattle.blake3_lanes.specs.Lanes.{lane, mix_columns, mix_diagonals}
+use Rattle.blake3_lanes.specs.inside.Lanes.{lane, mix_columns, mix_diagonals}
 use Rattle.blake3_lanes.specs.inside.Rows.{diagonal, four_rows, message_of, row_at}
 use Rattle.blake3_lanes.proofs.LaneLemmas.{lane_get}
 

@@ -2,7 +2,7 @@
 // its four columns are mixed side by side.
 ghost use Rattle.std.specs.Prelude.{◌≡◌, ℕ, ◌+◌, ◌<◌, ◌%◌, [], ◌∷◌, length, slice_index};
 ghost use Rattle.tree_hash.specs.TreeHash.{block_words, compress, folded, iv, mix, permute, round, start_state};
-ghost use Rattle.blake3_lanes.specs.Lanes.{lane};
+ghost use Rattle.blake3_lanes.specs.inside.Lanes.{lane};
 ghost use Rattle.blake3_lanes.specs.inside.Rows.{diagonal, four_rows, message_of, two_rows};
 
 use crate::chunks::{high_word, low_word};

@@ -50,7 +50,7 @@ impl WideHasher {
         }
     }
 
-    /// Feeds the bytes behind those that were fed before.
+    /// Feeds the bytes after those that were fed before.
     pub fn update(&mut self, bytes: &[u8])
         requires { wide_length self.old + length bytes.now < 2 ^ 64 }
         ensures length { wide_length self.new ≡ wide_length self.old + length bytes.now }
@@ -163,7 +163,7 @@ fn eight_chunks(bytes: &[u8], at: usize) -> &[u8]
     }
 }
 
-// The values of the eight chunks from byte 8,192 `k` on; those behind them are read meanwhile.
+// The values of the eight chunks from byte 8,192 `k` on; those after them are read meanwhile.
 fn group_values(hidden: &Hidden, bytes: &[u8], number: u64, k: usize) -> [[u32; 8]; 8]
     requires inside { 8192 * k + 8192 ≤ length bytes.now }
     requires number { 1024 * number + length bytes.now < 2 ^ 64 }
@@ -201,7 +201,7 @@ fn push_groups(spine: &mut Spine, number: u64, bytes: &[u8], groups: usize)
     spine.push_subtree(&parent_value(&halves[0], &halves[1]), 3);
 }
 
-// Takes in bytes behind `number` whole chunks: all but the last 1 to 8,192 go on the spine, and these go to the front
+// Takes in bytes after `number` whole chunks: all but the last 1 to 8,192 go on the spine, and these go to the front
 // of the buffer. Gives their number.
 fn absorb(spine: &mut Spine, buffer: &mut [u8; 8192], number: u64, bytes: &[u8]) -> usize
     requires number { number ≡ spine.old.count }

@@ -1,4 +1,4 @@
-use Rattle.std.proofs.Common.{List, ℕ, ap, sym, ◌∙◌}
+use Rattle.std.proofs.Common.{ap, sym, ◌∙◌}
 use Rattle.tree_hash.specs.TreeHash.{blake3, words_bytes}
 use Rattle.tree_hash.proofs.Cuts.{value_chunk}
 use Rattle.blake3_lanes.proofs.wide.hash_of_chunk.Goals as goal
