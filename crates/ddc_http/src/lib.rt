@@ -2,7 +2,7 @@
 #![tactic(auto)]
 
 mod fields;
-mod form;
+mod head_form;
 mod head;
 mod reader;
 #[cfg(test)]

@@ -40,7 +40,7 @@ enum Seen {
     NotCalled,
 }
 
-// What a call gave, and the place behind it.
+// What a call gave, and the place after it.
 #[derive(Clone, Copy, Debug, PartialEq, Eq)]
 struct Step(Seen, u64);
 
@@ -97,7 +97,7 @@ fn put_and_get(alloc: Global) -> Result<String, NoMemory> {
 }
 
 #[test]
-fn requests_come_one_behind_another(rt: HostRuntime) -> Result<(), Fail> {
+fn requests_come_one_after_another(rt: HostRuntime) -> Result<(), Fail> {
     let text = put_and_get(rt.alloc())?;
     for size in [1, 7, 8_192] {
         let found = steps(rt.alloc(), text.as_bytes(), size, &[])?;
@@ -200,7 +200,7 @@ const REF_LINE: &str =
     "PUT /api/v1/refs/game/maps/2d3adedff11b61f14c886e35afa036736dcd87a7 HTTP/1.1\r\n";
 
 #[test]
-fn requests_of_a_reference_come_one_behind_another(rt: HostRuntime) -> Result<(), Fail> {
+fn requests_of_a_reference_come_one_after_another(rt: HostRuntime) -> Result<(), Fail> {
     let mut text = String::new(rt.alloc());
     text.push_str(REF_LINE)?;
     text.push_str("Content-Type: application/x-ue-cb\r\nContent-Length: 2\r\n\r\n\x02\0")?;

@@ -2,7 +2,7 @@ use Rattle.std.proofs.Common.{◌≡◌, ◌∙◌, ◌++◌, List, ℕ, false, 
 use Rattle.std.specs.List.{list_any}
 use Rattle.std.specs.Io.KnownBytes.{Keeps, prepend_known}
 use Rattle.ddc_protocol.specs.Requests.{HasNoHead}
-use Rattle.ddc_http.specs.Reader.{is_line_feed}
+use Rattle.ddc_http.specs.inside.Parts.{is_line_feed}
 use Rattle.ddc_http.proofs.Heads.{headless_without_line_feed}
 use Rattle.ddc_http.proofs.Taken.{keeps-more}
 use Rattle.ddc_http.proofs.reader.fill.Goals as goal
@@ -21,5 +21,5 @@ pieces-preserved g c =
       same = subst P (sym more) (keeps-more before (g.S.Source.left c.pieces.source) after held piece i.same c.in-Ok.ensures.bytes.0);
       headless = subst HasNoHead (sym more) (headless_without_line_feed held piece i.headless without);
       longer = let long = ap length more ∙ length-append held piece in let first = i.longer in omega arith;
-      later = omega arith;
+      faults = i.faults ∙ c.in-Ok.ensures.cause.same;
     }

@@ -1,4 +1,4 @@
-use Rattle.std.proofs.Common.{◌≤◌, ◌-◌, length}
+use Rattle.std.proofs.Common.{◌≡◌, ◌≤◌, ◌-◌, length}
 use Rattle.std.specs.Io.KnownBytes.{Keeps, prepend_known}
 use Rattle.ddc_protocol.specs.Requests.{HasNoHead}
 use Rattle.ddc_http.proofs.reader.fill.Given as goal
@@ -8,7 +8,7 @@ invariant-pieces g l = record {
   same : Keeps (prepend_known l.initial.held.items (g.S.Source.left l.initial.source)) (prepend_known l.held.items (g.S.Source.left l.source));
   headless : HasNoHead l.held.items;
   longer : length l.initial.held.items ≤ length l.held.items;
-  later : g.S.Source.faults l.initial.source ≤ g.S.Source.faults l.source;
+  faults : g.S.Source.faults l.initial.source ≡ g.S.Source.faults l.source;
 }
 
 abbrev pub decreases-pieces : goal.decreases-pieces

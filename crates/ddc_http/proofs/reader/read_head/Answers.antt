@@ -1,7 +1,7 @@
 use Rattle.std.proofs.Common.{ℕ, List, None, subst}
 use Rattle.std.specs.Io.KnownBytes.{prepend_known}
 use Rattle.ddc_protocol.specs.Requests.{HasNoHead, IsUnread}
-use Rattle.ddc_http.specs.Reader.{HeadAt}
+use Rattle.ddc_http.specs.inside.Parts.{HeadAt}
 use Rattle.ddc_http.proofs.Taken.{when_ready, never_yet, kept-known, formless}
 use Rattle.ddc_http.proofs.reader.read_head.Goals as goal
 

@@ -23,7 +23,7 @@ pieces-init g c =
       counted = omega arith;
       bare = λ more. c.drop_front.ensures ∙ drop_of_length-le held {i = len + first} (omega arith);
       ready = λ whole. (omega arith, refl);
-      later = omega arith;
+      faults = refl;
     }
 
 pub returns-in-Err-clause-gives : goal.returns-in-Err-clause-gives
@@ -79,7 +79,7 @@ pieces-preserved g c =
       counted = omega arith;
       bare = λ more. bare;
       ready = λ whole. let done = i.ready whole in absurd (omega arith);
-      later = omega arith;
+      faults = i.faults ∙ c.in-Ok-take.ensures.cause.same;
     }
 
 pub returns-clause-gives : goal.returns-clause-gives

@@ -9,7 +9,7 @@ invariant-pieces g l = record {
   counted : length l.intake.bytes + l.wanted ≡ l.size;
   bare : 0 < l.wanted → l.held.items ≡ [];
   ready : l.len + l.size ≤ length l.fn.held.items → (l.wanted ≡ 0) × (l.source ≡ l.fn.source);
-  later : g.S.Source.faults l.fn.source ≤ g.S.Source.faults l.source;
+  faults : g.S.Source.faults l.fn.source ≡ g.S.Source.faults l.source;
 }
 
 abbrev pub decreases-pieces : goal.decreases-pieces

@@ -4,7 +4,7 @@ use ddc_names::{IoHash, Namespace, RefName};
 
 /// What a request head asks for.
 #[derive(Clone, Copy, Debug, PartialEq, Eq)]
-pub enum Form {
+pub enum RequestForm {
     /// To store the body, of so many bytes, under its hash.
     PutBlob(Namespace, IoHash, u64),
     /// To fetch the blob with this hash.

@@ -1,8 +1,8 @@
 use Rattle.std.proofs.Common.{ℕ, List, sym, subst, ◌∙◌, length}
 use Rattle.ddc_protocol.specs.Requests.{puts}
-use Rattle.ddc_http.specs.Reader.{BreaksAs}
+use Rattle.ddc_http.specs.inside.Parts.{BreaksAs}
 use Rattle.ddc_http.proofs.Asked.{broken}
-use Rattle.ddc_http.proofs.reader.put.Goals as goal
+use Rattle.ddc_http.proofs.reader.object_request.Goals as goal
 
 pub returns-then-is_object : goal.returns-then-is_object
 returns-then-is_object c = puts c.in-Ok.object c.in-Ok.ensures.bytes c.in-Ok.ensures.read (sym c.is_object.ensures.told ∙ c.if-is_object.true)

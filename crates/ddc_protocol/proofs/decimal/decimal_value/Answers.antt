@@ -2,8 +2,8 @@ use Rattle.std.proofs.Common.{◌≡◌, ◌≤◌, true, false, arith, rules, s
 use Rattle.std.proofs.lemmas.Bool.Decides.{nat_tests}
 use Rattle.std.proofs.lemmas.Int.Digits.{digits_value_more}
 use Rattle.std.specs.Char.{is_ascii_digit}
-use Rattle.ddc_http.proofs.Numbers.{digits_more, digit_lacks, short, value_of_digit}
-use Rattle.ddc_http.proofs.fields.number_of.Goals as goal
+use Rattle.ddc_protocol.proofs.Decimals.{digits_more, digit_lacks, short, value_of_digit}
+use Rattle.ddc_protocol.proofs.decimal.decimal_value.Goals as goal
 
 pub returns-then-not-is_ascii_digit : goal.returns-then-not-is_ascii_digit
 returns-then-not-is_ascii_digit c =

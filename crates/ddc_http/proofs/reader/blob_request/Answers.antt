@@ -1,7 +1,7 @@
 use Rattle.std.proofs.Common.{◌≡◌, true, false, length, rules}
 use Rattle.ddc_protocol.specs.Fields.{same_text}
 use Rattle.ddc_http.proofs.Asked.{mismatched, matched}
-use Rattle.ddc_http.proofs.reader.stored.Goals as goal
+use Rattle.ddc_http.proofs.reader.blob_request.Goals as goal
 
 pub returns-then-ne : goal.returns-then-ne
 returns-then-ne c =

@@ -5,11 +5,11 @@ ghost use Rattle.std.specs.Option.{option_zip};
 ghost use Rattle.std.specs.Result.{result_ok};
 ghost use Rattle.httparse.specs.Spans.{IsHeaderWithin, header_bytes};
 ghost use Rattle.ddc_names.specs.Names.{name_of, key_of, hash_of};
-ghost use Rattle.ddc_protocol.specs.Form.{is_slash, cut_text, space_and_hash, spot_of, spot_in, ref_named, hash_behind, spot_and_hash_in, ref_and_hash, blob_form, ref_form, finalise_form, refs_form, target_form, form};
+ghost use Rattle.ddc_protocol.specs.HeadForms.{is_slash, cut_text, space_and_hash, spot_of, spot_in, ref_named, finalize_hash, spot_and_hash_in, ref_and_hash, blob_form, ref_form, finalise_form, refs_form, target_form, request_form};
 
 use crate::fields::{is_absent, is_of_type, is_without_body, put_length};
 use ddc_names::{Bucket, IoHash, Namespace, RefKey, RefName, RefSpot};
-use ddc_protocol::Form;
+use ddc_protocol::RequestForm;
 use httparse::spans::HeaderSpan;
 use std::str;
 
@@ -60,7 +60,7 @@ fn slash_of(text: &[u8]) -> Option<usize>
     text.iter().position(|byte| *byte == b'/')
 }
 
-// What stands before and behind the first slash.
+// What stands before and after the first slash.
 fn cut_text(text: &[u8]) -> Option<(&[u8], &[u8])>
     ensures { option_map (λ parts. (parts.0.now, parts.1.now)) result ≡ cut_text text.now }
 {
@@ -99,8 +99,8 @@ fn ref_named(text: &[u8]) -> Option<RefName>
     Some(RefName { space, spot })
 }
 
-fn hash_behind(text: &[u8]) -> Option<IoHash>
-    ensures { result ≡ hash_behind text.now }
+fn finalize_hash(text: &[u8]) -> Option<IoHash>
+    ensures { result ≡ finalize_hash text.now }
 {
     let prefix = b"finalize/".as_slice();
     if text.starts_with(prefix) {
@@ -115,7 +115,7 @@ fn spot_and_hash(text: &[u8]) -> Option<(RefSpot, IoHash)>
 {
     let (bucket, rest) = cut_text(text)?;
     let (key, rest) = cut_text(rest)?;
-    spot_of(bucket, key).zip(hash_behind(rest))
+    spot_of(bucket, key).zip(finalize_hash(rest))
 }
 
 fn ref_and_hash(text: &[u8]) -> Option<(RefName, IoHash)>
@@ -131,16 +131,16 @@ fn blob_form(
     buf: &[u8],
     headers: &[HeaderSpan],
     blob: Option<(Namespace, IoHash)>,
-) -> Option<Form>
+) -> Option<RequestForm>
     requires { All (IsHeaderWithin (length buf.now)) headers.now }
     ensures { result ≡ blob_form method.now (map (header_bytes buf.now) headers.now) blob }
 {
     let (space, hash) = blob?;
     if method == b"PUT".as_slice() && is_of_type(b"application/octet-stream", buf, headers) {
         let size = put_length(MOST_BLOB_BYTES, buf, headers)?;
-        Some(Form::PutBlob(space, hash, size))
+        Some(RequestForm::PutBlob(space, hash, size))
     } else if method == b"GET".as_slice() && is_without_body(buf, headers) {
-        Some(Form::GetBlob(space, hash))
+        Some(RequestForm::GetBlob(space, hash))
     } else {
         None
     }
@@ -151,16 +151,16 @@ fn ref_form(
     buf: &[u8],
     headers: &[HeaderSpan],
     name: Option<RefName>,
-) -> Option<Form>
+) -> Option<RequestForm>
     requires { All (IsHeaderWithin (length buf.now)) headers.now }
     ensures { result ≡ ref_form method.now (map (header_bytes buf.now) headers.now) name }
 {
     let name = name?;
     if method == b"PUT".as_slice() && is_of_type(b"application/x-ue-cb", buf, headers) {
         let size = put_length(MOST_OBJECT_BYTES, buf, headers)?;
-        Some(Form::PutRef(name, size))
+        Some(RequestForm::PutRef(name, size))
     } else if method == b"GET".as_slice() && is_without_body(buf, headers) {
-        Some(Form::GetRef(name))
+        Some(RequestForm::GetRef(name))
     } else {
         None
     }
@@ -170,19 +170,19 @@ fn finalise_form(
     buf: &[u8],
     headers: &[HeaderSpan],
     named: Option<(RefName, IoHash)>,
-) -> Option<Form>
+) -> Option<RequestForm>
     requires { All (IsHeaderWithin (length buf.now)) headers.now }
     ensures { result ≡ finalise_form (map (header_bytes buf.now) headers.now) named }
 {
     let (name, hash) = named?;
     if is_without_body(buf, headers) {
-        Some(Form::Finalise(name, hash))
+        Some(RequestForm::Finalise(name, hash))
     } else {
         None
     }
 }
 
-fn refs_form(method: &[u8], text: &[u8], buf: &[u8], headers: &[HeaderSpan]) -> Option<Form>
+fn refs_form(method: &[u8], text: &[u8], buf: &[u8], headers: &[HeaderSpan]) -> Option<RequestForm>
     requires { All (IsHeaderWithin (length buf.now)) headers.now }
     ensures { result ≡ refs_form method.now (map (header_bytes buf.now) headers.now) text.now }
 {
@@ -193,7 +193,7 @@ fn refs_form(method: &[u8], text: &[u8], buf: &[u8], headers: &[HeaderSpan]) -> 
     }
 }
 
-fn target_form(method: &[u8], target: &[u8], buf: &[u8], headers: &[HeaderSpan]) -> Option<Form>
+fn target_form(method: &[u8], target: &[u8], buf: &[u8], headers: &[HeaderSpan]) -> Option<RequestForm>
     requires { All (IsHeaderWithin (length buf.now)) headers.now }
     ensures { result ≡ target_form method.now (map (header_bytes buf.now) headers.now) target.now }
 {
@@ -209,9 +209,9 @@ fn target_form(method: &[u8], target: &[u8], buf: &[u8], headers: &[HeaderSpan])
 }
 
 /// What a head of this method, target and these fields asks for, where it is of a form that is answered.
-pub fn form_of(method: &[u8], target: &[u8], buf: &[u8], headers: &[HeaderSpan]) -> Option<Form>
+pub fn request_form(method: &[u8], target: &[u8], buf: &[u8], headers: &[HeaderSpan]) -> Option<RequestForm>
     requires { All (IsHeaderWithin (length buf.now)) headers.now }
-    ensures { result ≡ form method.now target.now (map (header_bytes buf.now) headers.now) }
+    ensures { result ≡ request_form method.now target.now (map (header_bytes buf.now) headers.now) }
 {
     if !is_absent(buf, headers, b"transfer-encoding")
         || !is_absent(buf, headers, b"x-jupiter-iohash")

@@ -10,14 +10,12 @@ use Rattle.ddc_names.specs.declared.reference.RefKey.{RefKey}
 use Rattle.ddc_names.specs.declared.reference.RefSpot.{RefSpot}
 use Rattle.ddc_names.specs.declared.reference.RefName.{RefName}
 use Rattle.ddc_names.specs.Names.{name_of, key_of, hash_of}
-use Rattle.ddc_protocol.specs.declared.form.Form.{Form}
-use Rattle.ddc_protocol.specs.declared.form.Form.TheVariants.{PutBlob, GetBlob, PutRef, GetRef, Finalise}
-use Rattle.ddc_protocol.specs.Fields.{same_text, values_of, number}
+use Rattle.ddc_model.specs.Limits.{most_bytes}
+use Rattle.ddc_protocol.specs.declared.request_form.RequestForm.{RequestForm}
+use Rattle.ddc_protocol.specs.declared.request_form.RequestForm.TheVariants.{PutBlob, GetBlob, PutRef, GetRef, Finalise}
+use Rattle.ddc_protocol.specs.Fields.{same_text, values_of, decimal_value}
 
--- the most bytes of a blob, and of an object that is put under a reference
-abbrev pub most_blob_bytes : ℕ
-most_blob_bytes = 67108864
-
+-- the most bytes of an object that is put under a reference
 abbrev pub most_object_bytes : ℕ
 most_object_bytes = 16777216
 
@@ -30,7 +28,7 @@ abbrev pub cut_at : List ℕ → Option ℕ → Option (List ℕ × List ℕ)
 cut_at text (Some slash) = Some (take slash text, drop (slash + 1) text)
 cut_at text None = None
 
--- what stands before and behind the first slash
+-- what stands before and after the first slash
 abbrev pub cut_text : List ℕ → Option (List ℕ × List ℕ)
 cut_text text = cut_at text (position is_slash text)
 
@@ -55,7 +53,7 @@ abbrev pub ref_of : Option (List ℕ × RefSpot) → Option RefName
 ref_of (Some parts) = Some (record { space = parts.0; spot = parts.1 })
 ref_of None = None
 
--- a namespace, a bucket and a key, with a slash behind each of the first two
+-- a namespace, a bucket and a key, with a slash after each of the first two
 abbrev pub ref_in : Option (List ℕ × List ℕ) → Option RefName
 ref_in (Some parts) = ref_of (option_zip (result_ok (name_of parts.0)) (spot_in (cut_text parts.1)))
 ref_in None = None
@@ -64,11 +62,11 @@ abbrev pub ref_named : List ℕ → Option RefName
 ref_named text = ref_in (cut_text text)
 
 -- `finalize/` and a hash
-abbrev pub hash_behind : List ℕ → Option IoHash
-hash_behind text = if starts_with nat_eq text (codes "finalize/") then hash_of (drop 9 text) else None
+abbrev pub finalize_hash : List ℕ → Option IoHash
+finalize_hash text = if starts_with nat_eq text (codes "finalize/") then hash_of (drop 9 text) else None
 
 abbrev pub spot_and_hash_of : List ℕ → Option (List ℕ × List ℕ) → Option (RefSpot × IoHash)
-spot_and_hash_of bucket (Some parts) = option_zip (spot_of (option_zip (result_ok (name_of bucket)) (result_ok (key_of parts.0)))) (hash_behind parts.1)
+spot_and_hash_of bucket (Some parts) = option_zip (spot_of (option_zip (result_ok (name_of bucket)) (result_ok (key_of parts.0)))) (finalize_hash parts.1)
 spot_and_hash_of bucket None = None
 
 -- a bucket, a key, `finalize` and a hash, with slashes between
@@ -96,7 +94,7 @@ within_limit most (Some size) = if nat_le size most then Some size else None
 within_limit most None = None
 
 abbrev pub put_length : ℕ → List (List ℕ) → Option ℕ
-put_length most (value ∷ []) = within_limit most (number value)
+put_length most (value ∷ []) = within_limit most (decimal_value 19 value)
 put_length most (value ∷ other ∷ values) = None
 put_length most [] = None
 
@@ -118,25 +116,25 @@ is_empty (value ∷ values) = false
 -- ---- forms
 
 -- what a head of this method and these fields asks of a blob
-abbrev pub put_blob_form : List ℕ × IoHash → Option ℕ → Option Form
+abbrev pub put_blob_form : List ℕ × IoHash → Option ℕ → Option RequestForm
 put_blob_form blob (Some size) = Some (PutBlob blob.0 blob.1 size)
 put_blob_form blob None = None
 
-abbrev pub blob_form : List ℕ → List (List ℕ × List ℕ) → Option (List ℕ × IoHash) → Option Form
+abbrev pub blob_form : List ℕ → List (List ℕ × List ℕ) → Option (List ℕ × IoHash) → Option RequestForm
 blob_form method fields (Some blob) =
     if same_text method (codes "PUT") && is_of_type (codes "application/octet-stream") (values_of (codes "content-type") fields)
-    then put_blob_form blob (put_length most_blob_bytes (values_of (codes "content-length") fields))
+    then put_blob_form blob (put_length most_bytes (values_of (codes "content-length") fields))
     else if same_text method (codes "GET") && is_without_body (values_of (codes "content-length") fields)
     then Some (GetBlob blob.0 blob.1)
     else None
 blob_form method fields None = None
 
 -- and of a reference
-abbrev pub put_ref_form : RefName → Option ℕ → Option Form
+abbrev pub put_ref_form : RefName → Option ℕ → Option RequestForm
 put_ref_form name (Some size) = Some (PutRef name size)
 put_ref_form name None = None
 
-abbrev pub ref_form : List ℕ → List (List ℕ × List ℕ) → Option RefName → Option Form
+abbrev pub ref_form : List ℕ → List (List ℕ × List ℕ) → Option RefName → Option RequestForm
 ref_form method fields (Some name) =
     if same_text method (codes "PUT") && is_of_type (codes "application/x-ue-cb") (values_of (codes "content-type") fields)
     then put_ref_form name (put_length most_object_bytes (values_of (codes "content-length") fields))
@@ -145,27 +143,27 @@ ref_form method fields (Some name) =
     else None
 ref_form method fields None = None
 
-abbrev pub finalise_form : List (List ℕ × List ℕ) → Option (RefName × IoHash) → Option Form
+abbrev pub finalise_form : List (List ℕ × List ℕ) → Option (RefName × IoHash) → Option RequestForm
 finalise_form fields (Some named) = if is_without_body (values_of (codes "content-length") fields) then Some (Finalise named.0 named.1) else None
 finalise_form fields None = None
 
 -- a post finalises
-abbrev pub refs_form : List ℕ → List (List ℕ × List ℕ) → List ℕ → Option Form
+abbrev pub refs_form : List ℕ → List (List ℕ × List ℕ) → List ℕ → Option RequestForm
 refs_form method fields text = if same_text method (codes "POST") then finalise_form fields (ref_and_hash text) else ref_form method fields (ref_named text)
 
 -- `/api/v1/blobs/{namespace}/{hash}`, `/api/v1/refs/{namespace}/{bucket}/{key}` and its `/finalize/{hash}`
-abbrev pub target_form : List ℕ → List (List ℕ × List ℕ) → List ℕ → Option Form
+abbrev pub target_form : List ℕ → List (List ℕ × List ℕ) → List ℕ → Option RequestForm
 target_form method fields target =
     if starts_with nat_eq target (codes "/api/v1/blobs/") then blob_form method fields (space_and_hash (drop 14 target)) else
     if starts_with nat_eq target (codes "/api/v1/refs/") then refs_form method fields (drop 13 target) else None
 
 -- what a head of this method, target and these fields asks for, where it is of a form that is answered.
 -- A body in another coding, and a hash beside the path's, are not read
-abbrev pub form : List ℕ → List ℕ → List (List ℕ × List ℕ) → Option Form
-form method target fields =
+abbrev pub request_form : List ℕ → List ℕ → List (List ℕ × List ℕ) → Option RequestForm
+request_form method target fields =
     if is_empty (values_of (codes "transfer-encoding") fields) && is_empty (values_of (codes "x-jupiter-iohash") fields)
     then target_form method fields target
     else None
 
-abbrev pub form_of : RequestHead → Option Form
-form_of head = form head.method head.target (map name_and_value head.fields)
+abbrev pub form_of_head : RequestHead → Option RequestForm
+form_of_head head = request_form head.method head.target (map name_and_value head.fields)
