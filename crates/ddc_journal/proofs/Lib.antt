@@ -1,5 +1,6 @@
 mod Parts
 mod Spelling
+mod Ranks
 mod Append
 mod Making
 mod Reading

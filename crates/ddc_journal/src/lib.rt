@@ -2,13 +2,14 @@
 //! not at all.
 //!
 //! The file begins with 20 bytes of head and a gate. An item is a gate, a length and a body, and
-//! behind the last item stands a closed gate. A gate is opened alone, once what lies behind it is sure.
+//! after the last item stands a closed gate. A gate is opened alone, once what lies after it is sure.
 #![tactic(auto)]
 
 mod create;
 mod fault;
 mod framed;
 mod journal;
+mod kind;
 mod laws;
 mod load;
 mod parse;
