@@ -218,7 +218,7 @@ module _ {D : Type 0} (tells : Bool) (meaning : D → Meaning) (old : BookView D
           let back : limits ≡ next.index.limits = sym same_limits in
           record {
             history = subst (λ (l : Limits). IsHistory l steps next.index (devices_faults meaning devices)) back history;
-            has_bytes = bytes_kept old.cache entry bytes book.has_bytes fit.legal (sized (fresh_of entry) blob fit.brings);
+            has_bytes = bytes_kept old.cache entry bytes book.has_bytes (sized (fresh_of entry) blob fit.brings);
             whole = fit.whole;
             time = omega (arith, book.time, past.later);
             now = λ told none. subst (λ (l : Limits). IsStored (meaning devices.first) l next end') back (now told none);

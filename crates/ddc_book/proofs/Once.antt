@@ -112,7 +112,7 @@ module _ (one_front : OneFront) where
       opens_or_fails limits im cache DiskFailed x content fault = fault
       opens_or_fails limits im cache NoMemory x content fault = content refl
 
-      module _ (journals_fault : journals.OneFault) where
+      module _ (journals_fault : journals.OneFileFault) where
         -- the three causes of a fault
         record FromJournal (file : List ℕ) (fault : OpenFault) : Type 0 where
           pub cause : JournalFault
