@@ -193,7 +193,12 @@ fn refs_form(method: &[u8], text: &[u8], buf: &[u8], headers: &[HeaderSpan]) -> 
     }
 }
 
-fn target_form(method: &[u8], target: &[u8], buf: &[u8], headers: &[HeaderSpan]) -> Option<RequestForm>
+fn target_form(
+    method: &[u8],
+    target: &[u8],
+    buf: &[u8],
+    headers: &[HeaderSpan],
+) -> Option<RequestForm>
     requires { All (IsHeaderWithin (length buf.now)) headers.now }
     ensures { result ≡ target_form method.now (map (header_bytes buf.now) headers.now) target.now }
 {
@@ -209,7 +214,12 @@ fn target_form(method: &[u8], target: &[u8], buf: &[u8], headers: &[HeaderSpan])
 }
 
 /// What a head of this method, target and these fields asks for, where it is of a form that is answered.
-pub fn request_form(method: &[u8], target: &[u8], buf: &[u8], headers: &[HeaderSpan]) -> Option<RequestForm>
+pub fn request_form(
+    method: &[u8],
+    target: &[u8],
+    buf: &[u8],
+    headers: &[HeaderSpan],
+) -> Option<RequestForm>
     requires { All (IsHeaderWithin (length buf.now)) headers.now }
     ensures { result ≡ request_form method.now target.now (map (header_bytes buf.now) headers.now) }
 {
