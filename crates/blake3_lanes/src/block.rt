@@ -41,7 +41,8 @@ fn from_fourth(x: u32x4) -> u32x4
     x.swizzle([3, 0, 1, 2])
 }
 
-// The rows turned so that the diagonals become columns. Row 1, which a column has last, stands still.
+// The rows turned so that the diagonals become columns. Row 1 stands still: half a round changes it last, and it would
+// be waited for.
 #[inline(always)]
 fn turned(v: &[u32x4; 4]) -> [u32x4; 4]
     ensures { (j : ℕ) → j < 4 → lane j result ≡ diagonal j v.now }
@@ -81,7 +82,8 @@ fn in_order(a: u32x4, b: u32x4, c: u32x4, d: u32x4) -> [u32x4; 4]
     ]
 }
 
-// The same rows with their message permuted.
+// The rows of their message permuted. Of the words before, `tens` has 10 and 13, `ones` has 15, 9, 1 and 12, and `fives` has
+// 14, 5, 8 and 11.
 #[inline(always)]
 fn permute(a: u32x4, b: u32x4, c: u32x4, d: u32x4) -> [u32x4; 4]
     ensures { message_of result ≡ permute (message_of (a ∷ b ∷ c ∷ d ∷ [])) }
