@@ -5,3 +5,5 @@ mod Append
 mod Making
 mod Reading
 mod Once
+mod PairLent
+mod Pairing

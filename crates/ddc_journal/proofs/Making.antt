@@ -19,7 +19,7 @@ and_no : (x y : Bool) → y ≡ false → (x && y) ≡ false
 and_no true y is = is
 and_no false y is = refl
 
-no_gate : (file : List ℕ) → ◌≢◌ {A = ℕ} (slice_index file 20) 1 → IsUnmade file
+pub no_gate : (file : List ℕ) → ◌≢◌ {A = ℕ} (slice_index file 20) 1 → IsUnmade file
 no_gate file other = ap (λ (b : Bool). b && not (generation_in file == 0)) (ne_eqb (slice_index file 20) 1 other)
 
 no_generation : (file : List ℕ) → generation_in file ≡ 0 → IsUnmade file
@@ -45,6 +45,10 @@ cut file le = sym (take-append-drop 20 file) ∙ ap (λ (l : List ℕ). take 20 
 
 pub cut_size : (file : List ℕ) → 21 ≤ length file → length (take 20 file) ≡ 20
 cut_size file le = length-take-le 20 file (omega (arith, le))
+
+-- the generation stands in front of the gate
+pub generation_front : (file : List ℕ) → 21 ≤ length file → generation_in file ≡ from_le_bytes w64 (drop 12 (take 20 file))
+generation_front file le = ap generation_in (cut file le) ∙ head_generation (take 20 file) (slice_index file 20 ∷ drop 21 file) (cut_size file le)
 
 -- a calm call keeps a disk sure
 pub kept_sure : (old new : Meaning) (file : List ℕ) → IsSure old file → new.held ≡ old.held → IsCalm old.line new.line → IsSure new file

@@ -96,8 +96,7 @@ module _ (file : List ℕ) (at : ℕ) (x : BreaksAt at file) where
 
 pub one_journal : OneJournal
 one_journal file version other_version generation other bodies others small other_small x y =
-    let same = sym (after_head file version generation bodies x) ∙ after_head file other_version other others y in
-    (
+    let same = sym (after_head file version generation bodies x) ∙ after_head file other_version other others y in (
       sym (has_version file version generation bodies x small) ∙ has_version file other_version other others y other_small,
       sym (has_generation file version generation bodies x) ∙ has_generation file other_version other others y,
       (same_items bodies others x.gate y.gate x.rest y.rest x.sized y.sized (none_more file version generation bodies x) (none_more file other_version other others y) same).0,

@@ -48,9 +48,11 @@ unmade_rank file is = elim (cases_made file) [
   where
     never : true ≡ false → ⊥
     never e = cc e
+
     and_no : (x y : Bool) → y ≡ false → (x && y) ≡ false
     and_no true y is_no = is_no
     and_no false y is_no = refl
+
     numbered : is_made file ≡ true → generation_in file ≡ 0 → ⊥
     numbered on zero = never (sym on ∙ and_no (slice_index file 20 == 1) (not (generation_in file == 0)) (ap (λ (n : ℕ). not (n == 0)) zero))
 

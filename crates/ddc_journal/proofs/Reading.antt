@@ -1,17 +1,19 @@
 -- How the bytes of a file are read.
-use Rattle.std.proofs.Common.{◌≡◌, inr, ℕ, ◌≤◌, List, ◌∷◌, ◌++◌, length, take, drop, sym, ◌∙◌, ap, subst, arith, append_assoc, length-append}
-use Rattle.std.specs.Prelude.{true, slice_index}
-use Rattle.std.specs.Int.{to_le_bytes, w32, w64}
+use Rattle.std.proofs.Common.{◌≡◌, ◌<◌, ◌+◌, inl, inr, ℕ, ◌≤◌, List, ◌∷◌, ◌++◌, length, take, drop, sym, ◌∙◌, ap, subst, arith, append_assoc, length-append}
+use Rattle.std.specs.Prelude.{true, ◌&&◌, ◌==◌, if◌then◌else◌, not, slice_index}
+use Rattle.std.specs.Int.{from_le_bytes, to_le_bytes, w32, w64}
 use Rattle.std.proofs.Math.Seq.{take-add}
-use Rattle.std.proofs.lemmas.List.{get_or-append_right, take_at}
-use Rattle.ddc_journal.specs.Journal.{magic, framed, items, head_bytes, journal_bytes, IsJournal, version_in, generation_in, is_made}
+use Rattle.std.proofs.lemmas.List.{ext_get_or, get_or-append_right, get_or-take, take_at}
+use Rattle.std.proofs.lemmas.Bool.{cases_lt}
+use Rattle.std.proofs.Math.ListN.{get_or-eq_default}
+use Rattle.ddc_journal.specs.Journal.{magic, framed, items, head_bytes, journal_bytes, IsJournal, version_in, generation_in, is_made, rank}
 use Rattle.ddc_journal.specs.Faults.{FileFault, IsKnown}
 use Rattle.ddc_journal.specs.inside.Scanning.{EndsAt, IsOpen, IsScan, ItemFault}
 use Rattle.ddc_journal.specs.declared.kind.FileKind.{FileKind}
 use Rattle.ddc_journal.specs.declared.fault.JournalFault.{JournalFault}
 use Rattle.ddc_journal.specs.declared.fault.JournalFault.TheVariants.{DiskFailed, NotMade, Corrupt, BadVersion, NoMemory}
-use Rattle.ddc_journal.proofs.Ranks.{made}
-use Rattle.ddc_journal.proofs.Making.{cut, head_size}
+use Rattle.ddc_journal.proofs.Ranks.{made, rank_unmade}
+use Rattle.ddc_journal.proofs.Making.{cut, cut_size, generation_front, head_size, no_gate, short}
 
 -- the head from its three parts
 pub head_is : (b m v g : List ℕ) (version generation : ℕ) → m ≡ take 8 b → v ≡ take 4 (drop 8 b) → g ≡ take 8 (drop 4 (drop 8 b)) → m ≡ magic → to_le_bytes w32 version ≡ v → to_le_bytes w64 generation ≡ g
@@ -62,14 +64,17 @@ module _ (kind : FileKind) (bytes inner : List ℕ) (is_open : IsOpen kind bytes
       let breaks = f.1 in (
         is_made_true,
         f.0,
-        inr (inr ((first_is, is_open.known), record {
-          bodies = breaks.bodies;
-          rest = breaks.rest;
-          split = is_open.split ∙ ap (λ (l : List ℕ). head ++ 1 ∷ l) breaks.split ∙ ap (λ (l : List ℕ). l ++ 1 ∷ (items breaks.bodies ++ 1 ∷ breaks.rest)) (sym head_first);
-          sized = breaks.sized;
-          broken = breaks.broken;
-          place = breaks.place;
-        })),
+        inr (inr (
+          (first_is, is_open.known),
+          record {
+            bodies = breaks.bodies;
+            rest = breaks.rest;
+            split = is_open.split ∙ ap (λ (l : List ℕ). head ++ 1 ∷ l) breaks.split ∙ ap (λ (l : List ℕ). l ++ 1 ∷ (items breaks.bodies ++ 1 ∷ breaks.rest)) (sym head_first);
+            sized = breaks.sized;
+            broken = breaks.broken;
+            place = breaks.place;
+          },
+        )),
       )
   item_fault NoMemory f = tt
   item_fault NotMade f = absurd f
@@ -95,3 +100,20 @@ module _ (kind : FileKind) (bytes inner : List ℕ) (is_open : IsOpen kind bytes
         loads = subst (λ (k : ℕ). IsJournal k g bodies bytes) (sym is_v) (subst (λ (k : ℕ). IsJournal version k bodies bytes) (sym is_g) loads);
         place = place ∙ (λ i. length (journal_bytes (sym is_v i) (sym is_g i) bodies));
       }
+
+-- the first 21 bytes of a file have its rank; past its end they are 0
+module _ (front file : List ℕ) (size : length front ≡ 21) (same : (k : ℕ) → k < length front → slice_index front k ≡ slice_index file (0 + k)) where
+  at_place : (k : ℕ) → k < 21 → slice_index front k ≡ slice_index file k
+  at_place k lt = let here : 0 + k ≡ k = omega arith in same k (omega (arith, size, lt)) ∙ ap (slice_index file) here
+
+  pub window_rank : rank front ≡ rank file
+  window_rank = elim (cases_lt (length file) 21) [
+    | inl lt ↦ rank_unmade front (no_gate front (λ e. absurd (omega (arith, e, at_place 20 (omega arith), get_or-eq_default file 0 {n = 20} (omega (arith, lt)))))) ∙ sym (rank_unmade file (short file lt))
+    | inr le ↦
+        let heads : take 20 front ≡ take 20 file =
+        ext_get_or 0 (take 20 front) (take 20 file) (cut_size front (omega (arith, size)) ∙ sym (cut_size file le))
+        (λ i lt. let small : i < 20 = omega (arith, lt, cut_size front (omega (arith, size))) in get_or-take 20 front i 0 small ∙ at_place i (omega (arith, small)) ∙ sym (get_or-take 20 file i 0 small)) in
+        let named : generation_in front ≡ generation_in file = generation_front front (omega (arith, size)) ∙ ap (λ (l : List ℕ). from_le_bytes w64 (drop 12 l)) heads ∙ sym (generation_front file le) in
+        let gate = at_place 20 (omega arith) in
+        λ i. if (gate i == 1) && not (named i == 0) then named i else 0
+  ]

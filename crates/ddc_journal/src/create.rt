@@ -67,12 +67,7 @@ pub(crate) fn close<D: Disk>(disk: &mut D) -> Result<(), Failed>
 }
 
 // Writes all of a journal but its gate.
-fn fill<D: Disk>(
-    disk: &mut D,
-    version: u32,
-    generation: u64,
-    items: &[u8],
-) -> Result<(), Failed>
+fn fill<D: Disk>(disk: &mut D, version: u32, generation: u64, items: &[u8]) -> Result<(), Failed>
     ensures any_moment { IsClosed (D.meaning disk.old) → EachSince (D.meaning disk.old).line (D.meaning disk.new).line IsUnmade }
     ensures filled { OnOk result (IsClosed (D.meaning disk.old) → IsFilled (D.meaning disk.new) version generation items.now) }
     ensures past { EachSince (D.meaning disk.old).line (D.meaning disk.new).line (λ _. Unit {0}) }

@@ -12,6 +12,7 @@ mod journal;
 mod kind;
 mod laws;
 mod load;
+pub mod pair;
 mod parse;
 #[cfg(test)]
 mod tests;

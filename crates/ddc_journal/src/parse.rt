@@ -2,7 +2,7 @@
 
 ghost use Rattle.std.specs.Prelude.{◌≡◌, ◌<◌, ◌≤◌, ◌^◌, ◌++◌, ◌∷◌, [], length, take, drop, slice_index, IfErr, IfNone, IfOk, IfSome, OnErr, OnOk};
 ghost use Rattle.std.specs.Int.{from_le_bytes, to_le_bytes, w32, w64};
-ghost use Rattle.ddc_journal.specs.Journal.{magic, framed, head_bytes, version_in, generation_in};
+ghost use Rattle.ddc_journal.specs.Journal.{magic, framed, head_bytes, version_in, generation_in, rank};
 ghost use Rattle.ddc_journal.specs.Faults.{FileFault, LacksItem};
 ghost use Rattle.ddc_journal.specs.inside.Scanning.{EndsAt, IsOpen, IsScan, ItemFault};
 
@@ -67,6 +67,16 @@ fn split_head(bytes: &[u8]) -> Option<Head<'_>>
         gate: *gate,
         items,
     })
+}
+
+// The generation that the front of a file names, where its gate is open, and else 0.
+pub(crate) fn rank_in(front: &[u8]) -> u64
+    ensures { result ≡ rank front.now }
+{
+    match split_head(front) {
+        Some(head) => { if head.gate == 1 { head.generation } else { 0 } }
+        None => 0,
+    }
 }
 
 // The head of a journal, where it is as it should be.
