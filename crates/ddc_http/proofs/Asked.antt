@@ -27,9 +27,6 @@ matched space body hash found size content is same bytes read =
 
 -- a body that is no object
 pub broken : (name : RefName) (body : List ℕ) (size : ℕ) (fault : HttpFault) → BreaksAs body fault → AskedAs (PutRef name size) body (Err fault)
-broken name body size Unread h = absurd h
-broken name body size Cut h = absurd h
-broken name body size (HashMismatch named found) h = absurd h
 broken name body size (NotAnObject at) h = breaks h
-broken name body size ReadFailed h = absurd h
 broken name body size NoMemory h = tt
+broken name body size other h = absurd h

@@ -14,7 +14,7 @@ use Rattle.ddc_protocol.specs.Requests.{IsHead, HasNoHead, body_length, Item, mi
 use Rattle.ddc_http.specs.declared.request.Request.{Request}
 use Rattle.ddc_http.specs.declared.request.HttpFault.{HttpFault}
 use Rattle.ddc_http.specs.declared.request.HttpFault.TheVariants.{Unread, Cut, HashMismatch, NotAnObject, ReadFailed, NoMemory}
-use Rattle.ddc_http.specs.Reader.{Ahead, ahead, bytes_of_ahead, FaultsAs, HasRequestText, ReadsNext, asked_item, place_after_text}
+use Rattle.ddc_http.specs.Reader.{Ahead, stream_ahead, bytes_of_ahead, FaultsAs, HasRequestText, ReadsNext, asked_item, place_after_text}
 use Rattle.ddc_http.specs.inside.Parts.{HeadAt, BodyAt, BodyAs, AskedAs}
 
 pub no_item-without_head : (bytes : List ℕ) → HasNoHead bytes → HasNoRequestText bytes
@@ -175,9 +175,7 @@ pub body_fails : (old new : Ahead) (len size from : ℕ) (fault : HttpFault) →
 body_fails old new len size from Cut h = (h, refl)
 body_fails old new len size from ReadFailed h = (h, refl)
 body_fails old new len size from NoMemory h = tt
-body_fails old new len size from Unread h = absurd h
-body_fails old new len size from (HashMismatch named found) h = absurd h
-body_fails old new len size from (NotAnObject at) h = absurd h
+body_fails old new len size from other h = absurd h
 
 -- a place after a head and a body
 pub place_is : (from len size : ℕ) (held body : List ℕ) → len ≤ length held → length body ≡ size → min (from + len + size) (2 ^ 64 - 1) ≡ place_after_text from (take len held ++ body)
@@ -193,25 +191,22 @@ pub body_asked : (old new : Ahead) (form : RequestForm) (body : List ℕ) (len f
     → to ≡ min (from + len + body_length form) (2 ^ 64 - 1) → AskedAs form body result → ReadsNext old new from to result
 body_asked old new form body len from to (Ok (Some request)) h c whole place a =
     (take len old.held ++ body, spells old.held body len form (asked_item request) h whole a, c, place ∙ place_is from len (body_length form) old.held body h.within whole)
-body_asked old new form body len from to (Ok None) h c whole place a = absurd a
-body_asked old new form body len from to (Err Unread) h c whole place a = absurd a
-body_asked old new form body len from to (Err Cut) h c whole place a = absurd a
 body_asked old new form body len from to (Err (HashMismatch named found)) h c whole place a =
     (take len old.held ++ body, spells old.held body len form (mismatch named found) h whole a, c, place ∙ place_is from len (body_length form) old.held body h.within whole)
 body_asked old new form body len from to (Err (NotAnObject at)) h c whole place a =
     (take len old.held ++ body, spells old.held body len form (not_object at) h whole a, c, place ∙ place_is from len (body_length form) old.held body h.within whole)
-body_asked old new form body len from to (Err ReadFailed) h c whole place a = absurd a
 body_asked old new form body len from to (Err NoMemory) h c whole place a = tt
+body_asked old new form body len from to other h c whole place a = absurd a
 
 -- a request without a body
 pub head_asked : (left : Option (List ℕ)) (held now : List ℕ) (form : RequestForm) (len from to : ℕ) (request : Request)
     → HeadAt held len (Some form) → now ≡ drop len held → body_length form ≡ 0 → to ≡ min (from + len + 0) (2 ^ 64 - 1)
-    → Asks [] form (asked_item request) → ReadsNext (ahead held left) (ahead now left) from to (Ok (Some request))
+    → Asks [] form (asked_item request) → ReadsNext (stream_ahead held left) (stream_ahead now left) from to (Ok (Some request))
 head_asked left held now form len from to request h rest none place a =
     let P : List ℕ → Type 0 = λ t. Consumes (prepend_known held left) (prepend_known (drop len held) left) t in
     let Q : List ℕ → Type 0 = λ r. Consumes (prepend_known held left) (prepend_known r left) (take len held ++ []) in
     let taken = subst Q (sym rest) (subst P (sym (append-nil (take len held))) (consumes-front left held len)) in
-    body_asked (ahead held left) (ahead now left) form [] len from to (Ok (Some request)) h taken (sym none) (place ∙ ap (λ n. min (from + len + n) (2 ^ 64 - 1)) (sym none)) a
+    body_asked (stream_ahead held left) (stream_ahead now left) form [] len from to (Ok (Some request)) h taken (sym none) (place ∙ ap (λ n. min (from + len + n) (2 ^ 64 - 1)) (sym none)) a
 
 -- an answer about bytes that stayed
 pub kept-reads : (old mid new : Ahead) (from to : ℕ) (result : Result (Option Request) HttpFault) → Keeps (bytes_of_ahead old) (bytes_of_ahead mid) → ReadsNext mid new from to result
@@ -233,13 +228,8 @@ faults-from before mid now result e h = subst (λ n. FaultsAs n now result) (sym
 
 -- what is asked of a body that was read whole is no failed read
 pub faults-asked : (before now : ℕ) (form : RequestForm) (body : List ℕ) (result : Result (Option Request) HttpFault) → before ≡ now → AskedAs form body result → FaultsAs before now result
-faults-asked before now form body (Ok request) e a = e
-faults-asked before now form body (Err Unread) e a = e
-faults-asked before now form body (Err Cut) e a = e
-faults-asked before now form body (Err (HashMismatch named found)) e a = e
-faults-asked before now form body (Err (NotAnObject at)) e a = e
 faults-asked before now form body (Err ReadFailed) e a = absurd a
-faults-asked before now form body (Err NoMemory) e a = e
+faults-asked before now form body other e a = e
 
 -- what is ahead stays where a piece of the source is held after the rest
 pub keeps-more : (before left after : Option (List ℕ)) (held piece : List ℕ) → Keeps before (prepend_known held left) → Consumes left after piece → Keeps before (prepend_known (held ++ piece) after)

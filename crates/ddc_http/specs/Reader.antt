@@ -15,8 +15,8 @@ pub record Ahead : Type 0 where
   pub held : List ℕ
   pub left : Option (List ℕ)
 
-abbrev pub ahead : List ℕ → Option (List ℕ) → Ahead
-ahead held left = record { held = held; left = left }
+abbrev pub stream_ahead : List ℕ → Option (List ℕ) → Ahead
+stream_ahead held left = record { held = held; left = left }
 
 -- all of these bytes
 abbrev pub bytes_of_ahead : Ahead → Option (List ℕ)

@@ -4,7 +4,7 @@ use Rattle.ddc_http.specs.declared.request.Request.{Request}
 use Rattle.ddc_http.specs.declared.request.HttpFault.{HttpFault}
 use Rattle.ddc_http.specs.declared.request.HttpFault.TheVariants.{HashMismatch, NotAnObject}
 use Rattle.ddc_http.specs.declared.stream.RequestReader.{RequestReader}
-use Rattle.ddc_http.specs.Reader.{Ahead, ahead}
+use Rattle.ddc_http.specs.Reader.{Ahead, stream_ahead}
 
 -- the source as it is now
 abbrev pub source_of : {S : Type 0} → RequestReader S → S
@@ -16,7 +16,7 @@ held_of reader = reader.held.items
 
 -- what stands ahead of it, by what a source tells of the bytes that it has left
 abbrev pub ahead_of : {S : Type 0} → (S → Option (List ℕ)) → RequestReader S → Ahead
-ahead_of left reader = ahead (held_of reader) (left (source_of reader))
+ahead_of left reader = stream_ahead (held_of reader) (left (source_of reader))
 
 -- how many bytes stand before the present request
 abbrev pub place_of : {S : Type 0} → RequestReader S → ℕ

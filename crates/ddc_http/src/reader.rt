@@ -3,7 +3,7 @@ ghost use Rattle.std.specs.Prelude.{◌≡◌, ◌≤◌, ◌<◌, ◌+◌, ◌-
 ghost use Rattle.cb_fields.specs.Language.{IsNoObject};
 ghost use Rattle.ddc_protocol.specs.Requests.{HasNoHead};
 ghost use Rattle.ddc_protocol.specs.declared.request_form.RequestForm.TheVariants.{PutBlob, PutRef};
-ghost use Rattle.ddc_http.specs.Reader.{FaultsAs, HasRequestText, ReadsNext, ahead};
+ghost use Rattle.ddc_http.specs.Reader.{FaultsAs, HasRequestText, ReadsNext, stream_ahead};
 ghost use Rattle.ddc_http.specs.inside.Parts.{AskedAs, BodyAs, BodyAt, BreaksAs, FillsAs, HeadAt, HeadsAs};
 
 use crate::head::{Found, MOST_HEAD, find_head};
@@ -25,7 +25,7 @@ const BODY_PIECE: usize = 65_536;
 // at the end of the source.
 fn fill<S: Source>(source: &mut S, held: &mut Vec<u8>) -> Result<bool, HttpFault>
     requires { HasNoHead held.old.items }
-    ensures gives { FillsAs (ahead held.old.items (S.left source.old)) (ahead held.new.items (S.left source.new)) result }
+    ensures gives { FillsAs (stream_ahead held.old.items (S.left source.old)) (stream_ahead held.new.items (S.left source.new)) result }
     ensures grows { result ≡ Ok true → length held.old.items < length held.new.items }
     ensures faults { FaultsAs (S.faults source.old) (S.faults source.new) result }
 {
@@ -51,7 +51,7 @@ fn read_head<S: Source>(
     source: &mut S,
     held: &mut Vec<u8>,
 ) -> Result<Option<(usize, RequestForm)>, HttpFault>
-    ensures gives { HeadsAs (ahead held.old.items (S.left source.old)) (ahead held.new.items (S.left source.new)) result }
+    ensures gives { HeadsAs (stream_ahead held.old.items (S.left source.old)) (stream_ahead held.new.items (S.left source.new)) result }
     ensures ready { HasRequestText held.old.items → (source.new ≡ source.old) × (held.new ≡ held.old) }
     ensures faults { FaultsAs (S.faults source.old) (S.faults source.new) result }
 {
@@ -93,7 +93,7 @@ fn take_body<S: Source>(
     size: usize,
 ) -> Result<Whole, HttpFault>
     requires body { BodyAt held.old.items len size }
-    ensures gives { BodyAs (ahead held.old.items (S.left source.old)) (ahead held.new.items (S.left source.new)) len size result }
+    ensures gives { BodyAs (stream_ahead held.old.items (S.left source.old)) (stream_ahead held.new.items (S.left source.new)) len size result }
     ensures ready { len + size ≤ length held.old.items → source.new ≡ source.old }
     ensures faults { FaultsAs (S.faults source.old) (S.faults source.new) result }
 {
@@ -202,7 +202,7 @@ fn take_request<S: Source>(
     form: RequestForm,
 ) -> Result<Option<Request>, HttpFault>
     requires head { HeadAt held.old.items len (Some form) }
-    ensures gives { ReadsNext (ahead held.old.items (S.left source.old)) (ahead held.new.items (S.left source.new)) place.old place.new result }
+    ensures gives { ReadsNext (stream_ahead held.old.items (S.left source.old)) (stream_ahead held.new.items (S.left source.new)) place.old place.new result }
     ensures ready { HasRequestText held.old.items → source.new ≡ source.old }
     ensures faults { FaultsAs (S.faults source.old) (S.faults source.new) result }
 {
@@ -250,7 +250,7 @@ pub fn next_request<S: Source>(
     held: &mut Vec<u8>,
     place: &mut u64,
 ) -> Result<Option<Request>, HttpFault>
-    ensures gives { ReadsNext (ahead held.old.items (S.left source.old)) (ahead held.new.items (S.left source.new)) place.old place.new result }
+    ensures gives { ReadsNext (stream_ahead held.old.items (S.left source.old)) (stream_ahead held.new.items (S.left source.new)) place.old place.new result }
     ensures ready { HasRequestText held.old.items → source.new ≡ source.old }
     ensures faults { FaultsAs (S.faults source.old) (S.faults source.new) result }
 {

@@ -39,11 +39,11 @@ fn next_step<S: Source>(reader: &mut RequestReader<'_, S>) -> Step {
         return Step(Seen::Other, reader.place());
     }
     let seen = match reader.next() {
-        Ok(Some(request)) => match request.ask {
-            Ask::PutBlob { space: _, blob } => {
+        Ok(Some(request)) => match &request.ask {
+            Ask::PutBlob { blob, .. } => {
                 Seen::Put(blob.whole().bytes().len(), blob.whole().hash())
             }
-            Ask::GetBlob { space: _, hash } => Seen::Get(hash),
+            Ask::GetBlob { hash, .. } => Seen::Get(*hash),
             _ => Seen::Other,
         },
         Ok(None) => Seen::Nothing,

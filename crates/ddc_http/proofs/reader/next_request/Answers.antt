@@ -1,14 +1,14 @@
 use Rattle.std.proofs.Common.{◌∙◌, ℕ, sym, subst}
 use Rattle.std.specs.Prelude.{Vec}
 use Rattle.std.specs.declared.alloc.Global.{Global}
-use Rattle.ddc_http.specs.Reader.{HasRequestText, ahead}
+use Rattle.ddc_http.specs.Reader.{HasRequestText, stream_ahead}
 use Rattle.ddc_http.proofs.Taken.{kept-reads, faults-from}
 use Rattle.ddc_http.proofs.reader.next_request.Goals as goal
 
 pub returns-in-Ok-Some-clause-gives : goal.returns-in-Ok-Some-clause-gives
 returns-in-Ok-Some-clause-gives g c =
-    kept-reads (ahead c.args.held.now.items (g.S.Source.left c.args.source.now)) (ahead c.read_head.new.held.items (g.S.Source.left c.read_head.new.source))
-    (ahead c.take_request.new.held.items (g.S.Source.left c.take_request.new.source)) c.args.place.now c.take_request.new.place c.take_request.result
+    kept-reads (stream_ahead c.args.held.now.items (g.S.Source.left c.args.source.now)) (stream_ahead c.read_head.new.held.items (g.S.Source.left c.read_head.new.source))
+    (stream_ahead c.take_request.new.held.items (g.S.Source.left c.take_request.new.source)) c.args.place.now c.take_request.new.place c.take_request.result
     (rw c.in-Ok-Some.field-0-is at c.in-Ok-Some.ensures.gives).0 c.take_request.ensures.gives
 
 pub returns-in-Ok-Some-clause-faults : goal.returns-in-Ok-Some-clause-faults

@@ -3,7 +3,7 @@ use Rattle.ddc_protocol.specs.declared.request_form.RequestForm.{RequestForm}
 use Rattle.ddc_protocol.specs.declared.request_form.RequestForm.TheVariants.{PutBlob, GetBlob, PutRef, GetRef, Finalise}
 use Rattle.ddc_protocol.specs.Requests.{body_length, fetches, reads, finalises}
 use Rattle.ddc_http.specs.declared.request.Ask.TheVariants as ask
-use Rattle.ddc_http.specs.Reader.{HasRequestText, ahead}
+use Rattle.ddc_http.specs.Reader.{HasRequestText, stream_ahead}
 use Rattle.ddc_http.specs.inside.Parts.{HeadAt, AskedAs}
 use Rattle.ddc_http.proofs.Taken.{whole_held, body_asked, head_asked, faults-asked}
 use Rattle.ddc_http.proofs.reader.take_request.Goals as goal
@@ -24,8 +24,8 @@ returns-in-Ok-clause-ready g c = λ has. c.take_body.ensures.ready (body_held c.
 pub returns-in-Ok-clause-gives : goal.returns-in-Ok-clause-gives
 returns-in-Ok-clause-gives g c =
     let held = c.args.held.now.items in
-    let old = ahead held (g.S.Source.left c.args.source.now) in
-    let new = ahead c.take_body.new.held.items (g.S.Source.left c.take_body.new.source) in
+    let old = stream_ahead held (g.S.Source.left c.args.source.now) in
+    let new = stream_ahead c.take_body.new.held.items (g.S.Source.left c.take_body.new.source) in
     let body = c.in-Ok.body in
     let (taken, whole) = c.in-Ok.ensures.gives in
     let P : ℕ → Type 0 = λ n. AskedAs (PutBlob c.in-PutBlob.space c.in-PutBlob.named n) body c.blob_request.result in
@@ -46,8 +46,8 @@ returns-in-Ok-take_body-clause-ready g c = λ has. c.take_body-in-PutRef.ensures
 pub returns-in-Ok-take_body-clause-gives : goal.returns-in-Ok-take_body-clause-gives
 returns-in-Ok-take_body-clause-gives g c =
     let held = c.args.held.now.items in
-    let old = ahead held (g.S.Source.left c.args.source.now) in
-    let new = ahead c.take_body-in-PutRef.new.held.items (g.S.Source.left c.take_body-in-PutRef.new.source) in
+    let old = stream_ahead held (g.S.Source.left c.args.source.now) in
+    let new = stream_ahead c.take_body-in-PutRef.new.held.items (g.S.Source.left c.take_body-in-PutRef.new.source) in
     let body = c.in-Ok-take_body.body in
     let (taken, whole) = c.in-Ok-take_body.ensures.gives in
     let P : ℕ → Type 0 = λ n. AskedAs (PutRef c.in-PutRef.name n) body c.object_request.result in
