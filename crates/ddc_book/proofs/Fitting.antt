@@ -20,8 +20,8 @@ use Rattle.ddc_model.specs.Reads.{DeleteAs}
 use Rattle.ddc_model.proofs.Sound.{space_sound, upload_sound, put_sound, finalise_sound, get_sound, delete_sound}
 use Rattle.ddc_model.proofs.Whole.{space_whole, upload_whole, put_whole, finalise_whole, get_whole, delete_whole}
 use Rattle.ddc_model.proofs.Legal.{upload_legal, put_legal, delete_legal}
-use Rattle.ddc_book.specs.Calls.{bytes_or_none}
-use Rattle.ddc_book.specs.Making.{Brings, IsFit}
+use Rattle.ddc_opening.specs.Tables.{bytes_or_none, Brings}
+use Rattle.ddc_book.specs.inside.Making.{IsFit}
 
 module _ (cache : Cache) (whole : AreWhole cache.index) where
   pub space_fit : (space : List ℕ) (ttl pin : ℕ) → is_time ttl ≡ true → is_time pin ≡ true → SpaceAs cache.index space ttl pin (Ok tt) (Some (Space space ttl pin)) → IsFit cache (Space space ttl pin) None

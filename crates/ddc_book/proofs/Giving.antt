@@ -12,13 +12,13 @@ use Rattle.ddc_model.specs.Commands.{unless, with_room, EntryWhere}
 use Rattle.ddc_model.specs.History.{Past, past_of, broken_by, no_room, no_room_for, RoomWhere, WithRoom}
 use Rattle.ddc_model.proofs.Maps.{same_some}
 use Rattle.ddc_book.specs.View.{BookView}
-use Rattle.ddc_book.specs.Calls.{Becomes, Makes, Gives, Commits}
-use Rattle.ddc_book.specs.Making.{IsRefusal}
+use Rattle.ddc_book.specs.Calls.{Becomes, CommandMakes, CommandGives, Commits}
+use Rattle.ddc_book.specs.inside.Making.{IsRefusal}
 
 -- ---- nothing is made
 
 module _ {D A : Type 0} (old : BookView D) (bytes : List ℕ) (Answers : Result A StoreFault → Option Entry → Type 0) (unbroken : broken_by old.steps ≡ None) where
-  pub refused : (fault : StoreFault) → IsRefusal fault → Answers (Err fault) None → Gives old bytes old Answers (Err fault)
+  pub refused : (fault : StoreFault) → IsRefusal fault → Answers (Err fault) None → CommandGives old bytes old Answers (Err fault)
   refused (Broken faults) is h = absurd is
   refused UnknownSpace is h = (unbroken, None, h, refl)
   refused NotFound is h = (unbroken, None, h, refl)
@@ -30,7 +30,7 @@ module _ {D A : Type 0} (old : BookView D) (bytes : List ℕ) (Answers : Result 
   refused DiskFailed is h = absurd is
   refused (Damaged hash found) is h = (unbroken, None, h, refl)
 
-  pub answered : (value : A) → Answers (Ok value) None → Gives old bytes old Answers (Ok value)
+  pub answered : (value : A) → Answers (Ok value) None → CommandGives old bytes old Answers (Ok value)
   answered value h = (unbroken, None, h, refl)
 
 -- a refusal is no failure of the disks
@@ -55,15 +55,15 @@ no_error fault e = cc
 
 module _ {D A : Type 0} (old : BookView D) (bytes : List ℕ) (Answers : Result A StoreFault → Option Entry → Type 0) (unbroken : broken_by old.steps ≡ None) where
   -- a command that is refused makes nothing
-  pub refuses : (fault : StoreFault) → IsRefusal fault → Answers (Err fault) None → Gives old bytes old (WithRoom old.cache.index (past_of old.steps) Answers) (Err fault)
+  pub refuses : (fault : StoreFault) → IsRefusal fault → Answers (Err fault) None → CommandGives old bytes old (WithRoom old.cache.index (past_of old.steps) Answers) (Err fault)
   refuses fault is h = refused old bytes (WithRoom old.cache.index (past_of old.steps) Answers) unbroken fault is (no_room_needed old.cache.index (past_of old.steps) Answers (Err fault) h)
 
   -- a command that makes nothing
-  pub makes_none : (value : A) → Answers (Ok value) None → Gives old bytes old (WithRoom old.cache.index (past_of old.steps) Answers) (Ok value)
+  pub makes_none : (value : A) → Answers (Ok value) None → CommandGives old bytes old (WithRoom old.cache.index (past_of old.steps) Answers) (Ok value)
   makes_none value h = answered old bytes (WithRoom old.cache.index (past_of old.steps) Answers) unbroken value (no_room_needed old.cache.index (past_of old.steps) Answers (Ok value) h)
 
-  pub no_memory : (fault : StoreFault) → fault ≡ NoMemory → Gives old bytes old Answers (Err fault)
-  no_memory fault is = subst (λ (f : StoreFault). Gives old bytes old Answers (Err f)) (sym is) (unbroken, refl)
+  pub no_memory : (fault : StoreFault) → fault ≡ NoMemory → CommandGives old bytes old Answers (Err fault)
+  no_memory fault is = subst (λ (f : StoreFault). CommandGives old bytes old Answers (Err f)) (sym is) (unbroken, refl)
 
 -- ---- an entry is made
 
@@ -78,16 +78,16 @@ module _ {D A : Type 0} (old : BookView D) (entry : Entry) (value : A) where
   pub in_room : no_room old.cache.index (past_of old.steps) entry ≡ None → InRoom (Ok value) (Some entry)
   in_room is = (Ok value, Some entry, (refl, refl), subst (λ (o : Option StoreFault). RoomWhere o (Ok value) (Some entry) (Ok value) (Some entry)) (sym is) (refl, refl))
 
-  pub room_refused : (bytes : List ℕ) → broken_by old.steps ≡ None → (fault : StoreFault) → IsRefusal fault → no_room old.cache.index (past_of old.steps) entry ≡ Some fault → Gives old bytes old InRoom (Err fault)
+  pub room_refused : (bytes : List ℕ) → broken_by old.steps ≡ None → (fault : StoreFault) → IsRefusal fault → no_room old.cache.index (past_of old.steps) entry ≡ Some fault → CommandGives old bytes old InRoom (Err fault)
   room_refused bytes unbroken fault is full_is = refused old bytes InRoom unbroken fault is (full_up fault full_is)
 
 module _ {D A : Type 0} (old new : BookView D) (bytes : List ℕ) (entry : Entry) (value : A) where
   module _ (Answers : Result A StoreFault → Option Entry → Type 0) (h : Answers (Ok value) (Some entry)) where
     -- the entry was made
-    pub committed : Commits old entry bytes new (Ok tt) → Gives old bytes new Answers (Ok value)
+    pub committed : Commits old entry bytes new (Ok tt) → CommandGives old bytes new Answers (Ok value)
     committed made = (made.0, Some entry, h, subst (λ (o : Option Entry). Becomes old bytes new o) made.2.1 made.3)
 
-    pub not_committed : (fault : StoreFault) → Commits old entry bytes new (Err fault) → Gives old bytes new Answers (Err fault)
+    pub not_committed : (fault : StoreFault) → Commits old entry bytes new (Err fault) → CommandGives old bytes new Answers (Err fault)
     not_committed (Broken faults) made = made
     not_committed UnknownSpace made = absurd (no_error UnknownSpace made.2.0)
     not_committed NotFound made = absurd (no_error NotFound made.2.0)
@@ -103,15 +103,15 @@ module _ {D A : Type 0} (old new : BookView D) (bytes : List ℕ) (entry : Entry
 
   -- what the command answers, from what `make` answers, whatever bytes a command without a blob has
   module _ (Answers : Result A StoreFault → Option Entry → Type 0) (h : Answers (Ok value) (Some entry)) (others : List ℕ) (alike : changed old.cache bytes (Some entry) ≡ changed old.cache others (Some entry)) where
-    abbrev Whole : Result A StoreFault → Option Entry → Type 0
-    Whole = WithRoom old.cache.index (past_of old.steps) Answers
+    abbrev Roomed : Result A StoreFault → Option Entry → Type 0
+    Roomed = WithRoom old.cache.index (past_of old.steps) Answers
 
     same_change : (made : Option Entry) (room : Option StoreFault) (wished : Result A StoreFault) (wished_entry : Option Entry) (answer : Result A StoreFault) → wished_entry ≡ Some entry → RoomWhere room wished wished_entry answer made
         → changed old.cache bytes made ≡ changed old.cache others made
     same_change made None wished wished_entry answer is (_, same) = subst (λ (o : Option Entry). changed old.cache bytes o ≡ changed old.cache others o) (sym (same ∙ is)) alike
     same_change made (Some fault) wished wished_entry answer is (_, same) = subst (λ (o : Option Entry). changed old.cache bytes o ≡ changed old.cache others o) (sym same) refl
 
-    answers : (answer : Result A StoreFault) (made : Option Entry) → InRoom old entry value answer made → Whole answer made
+    answers : (answer : Result A StoreFault) (made : Option Entry) → InRoom old entry value answer made → Roomed answer made
     answers answer made p = (p.0, p.1, subst (λ (o : Option Entry). Answers p.0 o) (sym p.2.1) (subst (λ (w : Result A StoreFault). Answers w (Some entry)) (sym p.2.0) h), p.3)
 
     changes : (answer : Result A StoreFault) (made : Option Entry) → InRoom old entry value answer made → changed old.cache bytes made ≡ changed old.cache others made
@@ -121,10 +121,10 @@ module _ {D A : Type 0} (old new : BookView D) (bytes : List ℕ) (entry : Entry
     becomes None same is = is
     becomes (Some e) same is = (is.0 ∙ same, is.1)
 
-    makes : (answer : Result A StoreFault) → Makes old bytes new (InRoom old entry value) answer → Makes old others new Whole answer
+    makes : (answer : Result A StoreFault) → CommandMakes old bytes new (InRoom old entry value) answer → CommandMakes old others new Roomed answer
     makes answer m = (m.0, m.1, answers answer m.1 m.2, becomes m.1 (changes answer m.1 m.2) m.3)
 
-    pub gives : (answer : Result A StoreFault) → Gives old bytes new (InRoom old entry value) answer → Gives old others new Whole answer
+    pub gives : (answer : Result A StoreFault) → CommandGives old bytes new (InRoom old entry value) answer → CommandGives old others new Roomed answer
     gives (Ok got) m = makes (Ok got) m
     gives (Err (Broken faults)) m = m
     gives (Err UnknownSpace) m = makes (Err UnknownSpace) m
@@ -137,7 +137,7 @@ module _ {D A : Type 0} (old new : BookView D) (bytes : List ℕ) (entry : Entry
     gives (Err DiskFailed) m = (m.0, m.1, m.2, m.3, m.4, answers (Ok m.1) (Some m.2) m.5, m.6 ∙ changes (Ok m.1) (Some m.2) m.5, m.7)
     gives (Err (Damaged hash found)) m = makes (Err (Damaged hash found)) m
 
-pub room_failed : {D A : Type 0} (old new : BookView D) (bytes : List ℕ) (entry : Entry) (value : A) → no_room old.cache.index (past_of old.steps) entry ≡ None → (fault : StoreFault) → Commits old entry bytes new (Err fault) → Gives old bytes new (InRoom old entry value) (Err fault)
+pub room_failed : {D A : Type 0} (old new : BookView D) (bytes : List ℕ) (entry : Entry) (value : A) → no_room old.cache.index (past_of old.steps) entry ≡ None → (fault : StoreFault) → Commits old entry bytes new (Err fault) → CommandGives old bytes new (InRoom old entry value) (Err fault)
 room_failed old new bytes entry value room fault made = not_committed old new bytes entry value (InRoom old entry value) (in_room old entry value room) fault made
 
 -- ---- limits

@@ -3,7 +3,7 @@ use Rattle.std.specs.Prelude.{◌≡◌, ◌⊎◌, ℕ, ◌≤◌, Bool, true, 
 use Rattle.std.proofs.Common.{inl, inr, ⊎_elim, sym, ◌∙◌, ap, subst, arith, append_assoc, length-append}
 use Rattle.std.proofs.lemmas.Bool.{cases_lt}
 use Rattle.std.proofs.lemmas.List.{take-append-le, take_at}
-use Rattle.std.specs.FinMap.{FinMap, get}
+use Rattle.std.specs.FinMap.{get}
 use Rattle.ref_store.specs.declared.slot.Slot.{Slot}
 use Rattle.ddc_names.specs.declared.hash.IoHash.{IoHash}
 use Rattle.ddc_names.specs.declared.reference.RefName.{RefName}
@@ -22,18 +22,20 @@ use Rattle.ddc_model.specs.declared.entry.Entry.TheVariants.{Space, Upload, Repi
 use Rattle.ddc_model.specs.declared.entry.Step.{Step}
 use Rattle.ddc_model.specs.declared.entry.Step.TheVariants.{Loaded, Change, Broke}
 use Rattle.ddc_model.specs.State.{State, empty_state}
-use Rattle.ddc_model.specs.Entries.{after, legal, with_put_root, with_touch}
+use Rattle.ddc_model.specs.Entries.{after, with_put_root, with_touch}
 use Rattle.ddc_model.specs.Counts.{fresh_of}
 use Rattle.ddc_model.specs.Sound.{Cache, empty_cache, IsSound}
-use Rattle.ddc_model.specs.Keys.{blob_cmp}
-use Rattle.ddc_model.specs.Commands.{changed, kept}
+use Rattle.ddc_model.specs.Commands.{changed}
 use Rattle.ddc_model.specs.History.{after_steps, broken_by, AreLawful, IsLawful}
 use Rattle.ddc_model.proofs.Bytes.{bytes_kept}
-use Rattle.ddc_book.specs.Opening.{length_of, IsBody, Leads, Opens}
-use Rattle.ddc_book.specs.View.{BookView, limits_of, line_of, faults_of, IsBook, IsHistory, IsHonest, IsStored, OpensSome}
-use Rattle.ddc_book.specs.Calls.{bytes_or_none, Breaks, GoesOn}
-use Rattle.ddc_book.specs.Making.{Brings, IsFit, Serves}
-use Rattle.ddc_book.proofs.Steps.{after_more, broken_more, unbroken_behind, lawful_more}
+use Rattle.ddc_opening.specs.Opening.{IsBody, OpensAs}
+use Rattle.ddc_opening.specs.Tables.{bytes_or_none, Brings}
+use Rattle.ddc_opening.proofs.Bodies.{brought, leads_more}
+use Rattle.ddc_opening.proofs.Steps.{after_more, broken_more}
+use Rattle.ddc_book.specs.View.{BookView, limits_of, book_line, book_faults, IsBook, IsHistory, IsHonest, IsInJournal, OpensSome}
+use Rattle.ddc_book.specs.Calls.{Breaks, GoesOn}
+use Rattle.ddc_book.specs.inside.Making.{IsFit, IsServing}
+use Rattle.ddc_book.proofs.Steps.{unbroken_after, lawful_more}
 
 -- ---- limits stay
 
@@ -54,20 +56,6 @@ after_limits s (Finalise name hash hour) = refl
 after_limits s (Delete name hour) = refl
 after_limits s (Touch name hour) = touch_limits s name hour (get s.slots name)
 
--- ---- bodies
-
-pub leads_more : (cache next : Cache) (bodies : List (List ℕ)) (body : List ℕ) (entry : Entry) (bytes : List ℕ) → Leads cache bodies next → IsBody body entry bytes → legal next.index entry ≡ true → Leads cache (bodies ++ body ∷ []) (changed next bytes (Some entry))
-leads_more cache next [] body entry bytes leads is fits =
-    (entry, bytes, is, subst (λ (c : Cache). legal c.index entry ≡ true) leads fits, ap (λ (c : Cache). changed c bytes (Some entry)) leads)
-leads_more cache next (first ∷ bodies) body entry bytes leads is fits =
-    (leads.0, leads.1, leads.2, leads.3, leads_more (changed cache leads.1 (Some leads.0)) next bodies body entry bytes leads.4 is fits)
-
-pub brought : (fresh : Option Stored) (blob : Option (List ℕ)) → Brings fresh blob → length (bytes_or_none blob) ≡ length_of fresh
-brought None None brings = refl
-brought (Some stored) (Some bytes) brings = sym brings
-brought None (Some bytes) brings = absurd brings
-brought (Some stored) None brings = absurd brings
-
 sized : (fresh : Option Stored) (blob : Option (List ℕ)) → Brings fresh blob → IfSome fresh (λ stored. stored.len ≡ length (bytes_or_none blob))
 sized None blob brings = tt
 sized (Some stored) (Some bytes) brings = brings
@@ -80,7 +68,7 @@ body_is entry blob body spellable brings is = record { spellable = spellable; sp
 
 module _ {D : Type 0} (tells : Bool) (meaning : D → Meaning) (book : BookView D) (end : ℕ) (rests : (device : D) → Rests (meaning device).line) (kept : IsBook tells meaning book end) where
   -- each crash now opens to its state
-  pub opens_now : IsTrue tells → broken_by book.steps ≡ None → EachImage (line_of meaning book) (λ im. Opens (limits_of book) im book.cache)
+  pub opens_now : IsTrue tells → broken_by book.steps ≡ None → EachImage (book_line meaning book) (λ im. OpensAs (limits_of book) im book.cache)
   opens_now told none im now =
       let first = meaning book.devices.first in
       let second = meaning book.devices.second in
@@ -94,26 +82,26 @@ module _ {D : Type 0} (tells : Bool) (meaning : D → Meaning) (book : BookView 
       let first = meaning book.devices.first in
       let second = meaning book.devices.second in
       let blobs = meaning book.devices.blobs in
-      let still : Rests (line_of meaning book) = lending.rests first second blobs (rests book.devices.first) (rests book.devices.second) (rests book.devices.blobs) in
+      let still : Rests (book_line meaning book) = lending.rests first second blobs (rests book.devices.first) (rests book.devices.second) (rests book.devices.blobs) in
       record {
         opened = refl;
         later = omega arith;
-        past = started (line_of meaning book) (λ _. Unit {0}) still (λ im now. tt);
-        crash = λ told none. started (line_of meaning book) _ still (λ im now. inl (opens_now told none im now));
+        past = started (book_line meaning book) (λ _. Unit {0}) still (λ im now. tt);
+        crash = λ told none. started (book_line meaning book) _ still (λ im now. inl (opens_now told none im now));
       }
 
-pub serves : {D : Type 0} (tells : Bool) (meaning : D → Meaning) (rests : (device : D) → Rests (meaning device).line) {seen book : BookView D} → seen ≡ book → (end : ℕ) → IsBook tells meaning seen end → broken_by book.steps ≡ None → Serves tells meaning book
-serves {D} tells meaning rests {seen} {book} same end kept unbroken = subst (Serves tells meaning) same
+pub serves : {D : Type 0} (tells : Bool) (meaning : D → Meaning) (rests : (device : D) → Rests (meaning device).line) {seen book : BookView D} → seen ≡ book → (end : ℕ) → IsBook tells meaning seen end → broken_by book.steps ≡ None → IsServing tells meaning book
+serves {D} tells meaning rests {seen} {book} same end kept unbroken = subst (IsServing tells meaning) same
     (record { unbroken = ap (λ (b : BookView D). broken_by b.steps) same ∙ unbroken; whole = kept.whole; has_bytes = kept.has_bytes; stays = stays tells meaning seen end rests kept })
 
 -- ---- an entry is made
 
 module _ {D : Type 0} (tells : Bool) (meaning : D → Meaning) (old : BookView D) (end : ℕ) (entry : Entry) (blob : Option (List ℕ)) (devices : Devices D) (body : List ℕ)
     (book : IsBook tells meaning old end) (unbroken : broken_by old.steps ≡ None) (fit : IsFit old.cache entry blob) (is : IsBody body entry (bytes_or_none blob))
-    (later : faults_of meaning old ≤ devices_faults meaning devices)
-    (past : EachSince (line_of meaning old) (devices_line meaning devices) (λ _. Unit {0}))
+    (later : book_faults meaning old ≤ devices_faults meaning devices)
+    (past : EachSince (book_line meaning old) (devices_line meaning devices) (λ _. Unit {0}))
     (any_moment : (generation : ℕ) (bodies : List (List ℕ)) → IsReady (meaning old.devices.first) generation bodies end
-    → EachSince (line_of meaning old) (devices_line meaning devices) (λ im. LoadsEither generation bodies body im.first)) where
+    → EachSince (book_line meaning old) (devices_line meaning devices) (λ im. LoadsEither generation bodies body im.first)) where
   abbrev bytes : List ℕ
   bytes = bytes_or_none blob
 
@@ -130,9 +118,9 @@ module _ {D : Type 0} (tells : Bool) (meaning : D → Meaning) (old : BookView D
   new_line = devices_line meaning devices
 
   abbrev Either : Images → Type 0
-  Either im = Opens limits im old.cache ⊎ Opens limits im next
+  Either im = OpensAs limits im old.cache ⊎ OpensAs limits im next
 
-  -- the book with these steps behind the old ones
+  -- the book with these steps after the old ones
   abbrev pub with_steps : List Step → BookView D
   with_steps tail = record { devices = devices; cache = next; steps = old.steps ++ Change entry ∷ tail; opened = old.opened }
 
@@ -140,14 +128,14 @@ module _ {D : Type 0} (tells : Bool) (meaning : D → Meaning) (old : BookView D
   same_limits = after_limits old.cache.index entry
 
   -- a crash meanwhile
-  pub run : IsTrue tells → EachSince (line_of meaning old) new_line Either
+  pub run : IsTrue tells → EachSince (book_line meaning old) new_line Either
   run told =
       let stored = book.now told unbroken in
-      weaker (line_of meaning old) new_line _ Either (any_moment stored.generation stored.bodies stored.ready) (λ im loads.
+      weaker (book_line meaning old) new_line _ Either (any_moment stored.generation stored.bodies stored.ready) (λ im loads.
       ⊎_elim (λ before. inl (record { holds = record { generation = stored.generation; bodies = stored.bodies; loads = before; leads = stored.leads }; whole = book.whole }))
       (λ after. inr (record { holds = record { generation = stored.generation; bodies = stored.bodies ++ body ∷ []; loads = after; leads = leads_more (empty_cache limits) old.cache stored.bodies body entry bytes stored.leads is fit.legal }; whole = fit.whole })) loads)
 
-  was_honest : IsHonest tells new_line limits old.opened → IsHonest tells (line_of meaning old) limits old.opened
+  was_honest : IsHonest tells new_line limits old.opened → IsHonest tells (book_line meaning old) limits old.opened
   was_honest honest = record { told = honest.told; sound = λ im left. honest.sound im (past.keeps old.opened im book.time left) }
 
   module _ (tail : List Step) where
@@ -192,28 +180,28 @@ module _ {D : Type 0} (tells : Bool) (meaning : D → Meaning) (old : BookView D
     still_since honest t im le left =
         let was = was_honest honest in
         ⊎_elim (λ early. still_some im (book.since was t im le (past.past t im (omega (arith, early)) left)))
-        (λ late. either_some (book.sound was) im ((run honest.told).each t im late left)) (cases_lt t (line_of meaning old).moment)
+        (λ late. either_some (book.sound was) im ((run honest.told).each t im late left)) (cases_lt t (book_line meaning old).moment)
 
-    module _ (still : (s : State) → after_steps s tail ≡ s) (tail_lawful : (faults : ℕ) (s : State) → faults ≤ faults_of meaning old → AreLawful faults s tail)
+    module _ (still : (s : State) → after_steps s tail ≡ s) (tail_lawful : (faults : ℕ) (s : State) → faults ≤ book_faults meaning old → AreLawful faults s tail)
         (tail_broken : IfSome (broken_by tail) (λ now. now ≤ devices_faults meaning devices)) where
       history : IsHistory limits steps next.index (devices_faults meaning devices)
       history =
           let h = book.history in
-          let behind : old.cache.index ≡ after_steps (after_steps start h.opened) h.made = h.leaves ∙ ap (after_steps start) h.split ∙ after_more start h.opened (Loaded limits h.faults ∷ h.made) in
-          let none : broken_by h.made ≡ None = unbroken_behind h.opened limits h.faults h.made (ap broken_by (sym h.split) ∙ unbroken) in
+          let since : old.cache.index ≡ after_steps (after_steps start h.opened) h.made = h.leaves ∙ ap (after_steps start) h.split ∙ after_more start h.opened (Loaded limits h.faults ∷ h.made) in
+          let none : broken_by h.made ≡ None = unbroken_after h.opened limits h.faults h.made (ap broken_by (sym h.split) ∙ unbroken) in
           record {
             opened = h.opened;
             faults = h.faults;
             made = h.made ++ Change entry ∷ tail;
             split = ap (λ (l : List Step). l ++ Change entry ∷ tail) h.split ∙ append_assoc h.opened (Loaded limits h.faults ∷ h.made) (Change entry ∷ tail);
             lawful = lawful_more h.faults (after_steps start h.opened) h.made (Change entry ∷ tail) none h.lawful
-                (subst (λ (s : State). IsLawful s entry) behind fit.lawful, tail_lawful h.faults _ h.later);
+                (subst (λ (s : State). IsLawful s entry) since fit.lawful, tail_lawful h.faults _ h.later);
             leaves = ap (λ (s : State). after s entry) h.leaves ∙ sym (after_more start old.steps (Change entry ∷ tail) ∙ still _);
             later = omega (arith, h.later, later);
             broken = subst (λ (o : Option ℕ). IfSome o (λ now. now ≤ devices_faults meaning devices)) (sym (broken_more old.steps (Change entry ∷ tail) unbroken)) tail_broken;
           }
 
-      pub keeps : (end' : ℕ) → (IsTrue tells → broken_by steps ≡ None → IsStored (meaning devices.first) limits next end') → IsBook tells meaning (with_steps tail) end'
+      pub keeps : (end' : ℕ) → (IsTrue tells → broken_by steps ≡ None → IsInJournal (meaning devices.first) limits next end') → IsBook tells meaning (with_steps tail) end'
       keeps end' now =
           let back : limits ≡ next.index.limits = sym same_limits in
           record {
@@ -221,7 +209,7 @@ module _ {D : Type 0} (tells : Bool) (meaning : D → Meaning) (old : BookView D
             has_bytes = bytes_kept old.cache entry bytes book.has_bytes (sized (fresh_of entry) blob fit.brings);
             whole = fit.whole;
             time = omega (arith, book.time, past.later);
-            now = λ told none. subst (λ (l : Limits). IsStored (meaning devices.first) l next end') back (now told none);
+            now = λ told none. subst (λ (l : Limits). IsInJournal (meaning devices.first) l next end') back (now told none);
             sound = λ honest. fit.sound (book.sound (was_honest (subst (λ (l : Limits). IsHonest tells new_line l old.opened) same_limits honest)));
             since = λ honest t im le left. subst (λ (l : Limits). OpensSome l steps im) back (still_since (subst (λ (l : Limits). IsHonest tells new_line l old.opened) same_limits honest) t im le left);
           }
@@ -240,14 +228,13 @@ module _ {D : Type 0} (tells : Bool) (meaning : D → Meaning) (old : BookView D
   broken_now before now none = let gone : Some now ≡ None = sym (broken_more old.steps (Change entry ∷ Broke true before now ∷ []) unbroken) ∙ none in cc
 
   -- the disks failed meanwhile
-  pub keeps_broken : (before now : ℕ) → before ≡ faults_of meaning old → now ≡ devices_faults meaning devices → Rose (faults_of meaning old) (devices_faults meaning devices) → (end' : ℕ) → IsBook tells meaning (with_steps (Broke true before now ∷ [])) end'
+  pub keeps_broken : (before now : ℕ) → before ≡ book_faults meaning old → now ≡ devices_faults meaning devices → Rose (book_faults meaning old) (devices_faults meaning devices) → (end' : ℕ) → IsBook tells meaning (with_steps (Broke true before now ∷ [])) end'
   keeps_broken before now was is_now rose end' =
       keeps (Broke true before now ∷ []) (λ s. refl) (λ faults s le. (omega (arith, le, was), omega (arith, rose, was, is_now), refl)) (omega (arith, is_now)) end' (λ told none. absurd (broken_now before now none))
 
   -- the book whose parts were changed each by itself
-  pub as_made : (index : State) (all : FinMap blob_cmp (List ℕ)) (listed tail : List Step) → index ≡ after old.cache.index entry → all ≡ kept old.cache.bytes entry bytes → listed ≡ old.steps ++ Change entry ∷ tail
-      → record { devices = devices; cache = record { index = index; bytes = all }; steps = listed; opened = old.opened } ≡ with_steps tail
-  as_made index all listed tail index_is bytes_is steps_is i = record { devices = devices; cache = record { index = index_is i; bytes = bytes_is i }; steps = steps_is i; opened = old.opened }
+  pub as_made : (cache : Cache) (listed tail : List Step) → cache ≡ next → listed ≡ old.steps ++ Change entry ∷ tail → record { devices = devices; cache = cache; steps = listed; opened = old.opened } ≡ with_steps tail
+  as_made cache listed tail cache_is steps_is i = record { devices = devices; cache = cache_is i; steps = steps_is i; opened = old.opened }
 
 -- what a call gives at which the disks failed
 pub breaks : {D : Type 0} (bytes : List ℕ) (entry : Entry) (before now : ℕ) (seen old new : BookView D) → seen ≡ old → broken_by old.steps ≡ None

@@ -5,11 +5,7 @@ pub mod Lent
 pub mod Lengths
 pub mod Giving
 pub mod Absent
-pub mod Once
-pub mod Replaying
 pub mod OpenedBook
-pub mod Loading
-pub mod Creating
 pub mod AbsentList
 pub mod Uploads
 pub mod Putting

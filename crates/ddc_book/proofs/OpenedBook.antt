@@ -13,13 +13,12 @@ use Rattle.ddc_model.specs.declared.entry.Step.TheVariants.{Loaded, Change, Brok
 use Rattle.ddc_model.specs.State.{State, empty_state}
 use Rattle.ddc_model.specs.Sound.{Cache, empty_cache, IsSound}
 use Rattle.ddc_model.specs.History.{after_step, after_steps}
-use Rattle.ddc_book.specs.Opening.{Leads, Holds, Opens}
-use Rattle.ddc_book.specs.Laws.{OneHolding}
-use Rattle.ddc_book.specs.View.{IsBook, IsStored}
-use Rattle.ddc_book.specs.Replaying.{IsReplayed}
-use Rattle.ddc_book.specs.Found.{IsFound}
+use Rattle.ddc_opening.specs.Opening.{Leads, HoldsCache, OpensAs}
+use Rattle.ddc_opening.specs.Laws.{OneHolding}
+use Rattle.ddc_book.specs.View.{IsBook, IsInJournal}
+use Rattle.ddc_opening.specs.Loading.{IsReplayed, IsOpenStore}
 use Rattle.ddc_book.proofs.Kept.{after_limits}
-use Rattle.ddc_book.proofs.Steps.{after_more, broken_more}
+use Rattle.ddc_opening.proofs.Steps.{after_more, broken_more}
 
 -- ---- the steps
 
@@ -51,8 +50,8 @@ module _ {D : Type 0} (tells : Bool) (meaning : D → Meaning) (rests : (d : D) 
   faults = devices_faults meaning devices
 
   -- an image now holds the cache
-  module _ (bodies : List (List ℕ)) (leads : Leads (empty_cache limits) bodies cache) (stored : IsTrue tells → IsStored (meaning devices.first) limits cache end) where
-    holds_now : IsTrue tells → (im : Images) → IsImage all im → Holds limits im.first cache
+  module _ (bodies : List (List ℕ)) (leads : Leads (empty_cache limits) bodies cache) (stored : IsTrue tells → IsInJournal (meaning devices.first) limits cache end) where
+    holds_now : IsTrue tells → (im : Images) → IsImage all im → HoldsCache limits im.first cache
     holds_now tell im now =
         let is = stored tell in
         let first = (each_now (meaning devices.first) (meaning devices.second) (meaning devices.blobs) (rests devices.first) (rests devices.second) (rests devices.blobs) im now).0 in
@@ -71,17 +70,17 @@ module _ {D : Type 0} (tells : Bool) (meaning : D → Meaning) (rests : (d : D) 
         )
 
     -- a sound state that an image now opens to is the cache
-    same_now : IsTrue tells → (im : Images) → IsImage all im → (state : Cache) → Opens limits im state → state ≡ cache
+    same_now : IsTrue tells → (im : Images) → IsImage all im → (state : Cache) → OpensAs limits im state → state ≡ cache
     same_now tell im now state opens = one_holding limits im.first state cache opens.holds (holds_now tell im now)
 
-  is_book : (steps : List Step) → IsFound tells (meaning devices.first) limits cache steps end
+  is_book : (steps : List Step) → IsOpenStore tells (meaning devices.first) limits cache steps end
       → IsBook tells meaning (record { devices = devices; cache = cache; steps = steps ++ Loaded limits faults ∷ []; opened = all.moment }) end
   is_book steps found =
       let replayed = found.replayed in
       let longer = steps ++ Loaded limits faults ∷ [] in
       let leaves : cache.index ≡ after_steps (empty_state limits) longer = replayed.leaves ∙ sym (after_more (empty_state limits) steps (Loaded limits faults ∷ [])) in
       let unbroken = broken_more steps (Loaded limits faults ∷ []) replayed.unbroken in
-      let stored : IsTrue tells → IsStored (meaning devices.first) limits cache end =
+      let stored : IsTrue tells → IsInJournal (meaning devices.first) limits cache end =
       λ tell. let ready = found.ready tell in record { generation = ready.0; bodies = found.bodies; ready = ready.1; leads = replayed.leads } in
       record {
         history = record {
@@ -117,10 +116,10 @@ module _ {D : Type 0} (tells : Bool) (meaning : D → Meaning) (rests : (d : D) 
       }
 
   -- the same within limits that are those of the cache
-  pub book_opened : (given : Limits) (steps longer : List Step) (count opened : ℕ) → IsFound tells (meaning devices.first) given cache steps end → longer ≡ steps ++ Loaded given count ∷ [] → count ≡ faults → opened ≡ all.moment
+  pub book_opened : (given : Limits) (steps longer : List Step) (count opened : ℕ) → IsOpenStore tells (meaning devices.first) given cache steps end → longer ≡ steps ++ Loaded given count ∷ [] → count ≡ faults → opened ≡ all.moment
       → IsBook tells meaning (record { devices = devices; cache = cache; steps = longer; opened = opened }) end
   book_opened given steps longer count opened found is counted at =
       let same : given ≡ limits = sym (limits_stay given found.bodies cache steps found.replayed) in
-      let here = subst (λ (l : Limits). IsFound tells (meaning devices.first) l cache steps end) same found in
+      let here = subst (λ (l : Limits). IsOpenStore tells (meaning devices.first) l cache steps end) same found in
       let all_is : longer ≡ steps ++ Loaded limits faults ∷ [] = is ∙ (λ i. steps ++ Loaded (same i) (counted i) ∷ []) in
       subst (λ (p : List Step × ℕ). IsBook tells meaning (record { devices = devices; cache = cache; steps = p.0; opened = p.1 }) end) (λ i. (sym all_is i, sym at i)) (is_book steps here)

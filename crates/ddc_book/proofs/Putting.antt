@@ -28,7 +28,7 @@ use Rattle.ddc_model.specs.Counts.{added, full}
 use Rattle.ddc_model.specs.Sound.{Cache}
 use Rattle.ddc_model.specs.Commands.{changed, hour_of, stored_content, needs_none, fresh_where, fresh_root, with_object, put_entry, put_fault, PutWhere, PutAs, is_done, FinaliseWhere, FinaliseAs}
 use Rattle.ddc_model.proofs.Maps.{get_here, get_away, same_or_not}
-use Rattle.ddc_book.specs.Making.{full_by}
+use Rattle.ddc_book.specs.inside.Making.{full_by}
 
 pub no_needs : (needs : List IoHash) → nat_eq (length needs) 0 ≡ needs_none needs
 no_needs [] = grind (arith, nat_tests)

@@ -19,7 +19,7 @@ use Rattle.ddc_model.specs.Reads.{HeldAs, serve, served, undamaged, where_room, 
 use Rattle.ddc_model.proofs.Maps.{same_some}
 use Rattle.ddc_model.specs.Content.{content_hash}
 use Rattle.ddc_model.specs.Entries.{same_hash}
-use Rattle.ddc_book.specs.Making.{touch_with_room, IsRefusal}
+use Rattle.ddc_book.specs.inside.Making.{touch_with_room, IsRefusal}
 
 module _ (cache : Cache) (whole : AreWhole cache.index) (has : HasBytes cache) (name : RefName) where
   -- a whole closure has its root

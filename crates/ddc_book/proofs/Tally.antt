@@ -7,8 +7,9 @@ use Rattle.ddc_model.specs.declared.entry.Step.{Step}
 use Rattle.ddc_model.specs.declared.entry.Step.TheVariants.{Loaded, Change, Broke}
 use Rattle.ddc_model.specs.Counts.{added_links, fresh_of}
 use Rattle.ddc_model.specs.History.{broken_by, none_yet, Past, past_of}
-use Rattle.ddc_book.specs.Tallies.{IsTallied}
-use Rattle.ddc_book.proofs.Steps.{past_more, broken_more}
+use Rattle.ddc_book.specs.inside.Tallies.{IsTallied}
+use Rattle.ddc_opening.proofs.Steps.{broken_more}
+use Rattle.ddc_book.proofs.Steps.{past_more}
 
 module _ (steps : List Step) (len capacity : ℕ) (unbroken : broken_by steps ≡ None) where
   past_is : (step : Step) (past : Past) → past_of (steps ++ step ∷ []) ≡ past → (more : List Step) → more ≡ steps ++ step ∷ [] → past_of more ≡ past

@@ -13,7 +13,7 @@ use Rattle.ddc_model.specs.State.{State, blob_at, has_space}
 use Rattle.ddc_model.specs.Content.{Content, content_hash}
 use Rattle.ddc_model.specs.Commands.{hour_of, stored_content, with_room, EntryWhere, upload_where, UploadAs}
 use Rattle.ddc_model.proofs.Maps.{same_some}
-use Rattle.ddc_book.specs.Making.{full_by}
+use Rattle.ddc_book.specs.inside.Making.{full_by}
 use Rattle.ddc_book.proofs.Giving.{made_where, refused_where}
 
 is_before : (a b : ℕ) → a < b → nat_lt a b ≡ true

@@ -1,10 +1,5 @@
-pub mod Opening
-pub mod Tallies
 pub mod View
 pub mod Calls
-pub mod Making
-pub mod Replaying
-pub mod Found
 pub mod Loading
-pub mod Laws
 pub mod Tied
+pub mod inside

@@ -15,7 +15,7 @@ use Rattle.ddc_model.specs.Keys.{blob_cmp, coded_blob_name}
 use Rattle.ddc_model.specs.State.{State, coded_state, empty_state}
 use Rattle.ddc_model.specs.Sound.{Cache, empty_cache, HasBytes, AreWhole, IsSound}
 use Rattle.ddc_model.specs.History.{after_steps, broken_by, AreLawful}
-use Rattle.ddc_book.specs.Opening.{Leads, Opens}
+use Rattle.ddc_opening.specs.Opening.{Leads, OpensAs}
 
 abbrev coded_step : Coded Step
 coded_step = step.the_row.coded
@@ -43,12 +43,12 @@ abbrev pub limits_of : {D : Type 0} → BookView D → Limits
 limits_of book = book.cache.index.limits
 
 -- the joint images of its devices
-abbrev pub line_of : {D : Type 0} → (D → Meaning) → BookView D → Timeline Images
-line_of meaning book = devices_line meaning book.devices
+abbrev pub book_line : {D : Type 0} → (D → Meaning) → BookView D → Timeline Images
+book_line meaning book = devices_line meaning book.devices
 
 -- the count of their faults
-abbrev pub faults_of : {D : Type 0} → (D → Meaning) → BookView D → ℕ
-faults_of meaning book = devices_faults meaning book.devices
+abbrev pub book_faults : {D : Type 0} → (D → Meaning) → BookView D → ℕ
+book_faults meaning book = devices_faults meaning book.devices
 
 -- a store was opened within these limits, its steps since are lawful, and all of them leave this
 -- state; the devices' count of faults is `count`
@@ -63,7 +63,7 @@ pub record IsHistory (limits : Limits) (steps : List Step) (s : State) (count : 
   pub broken : IfSome (broken_by steps) (λ now. now ≤ count)
 
 -- each crash now leaves a journal whose bodies lead to this cache; its closing gate stands at `end`
-pub record IsStored (first : Meaning) (limits : Limits) (cache : Cache) (end : ℕ) : Type 0 where
+pub record IsInJournal (first : Meaning) (limits : Limits) (cache : Cache) (end : ℕ) : Type 0 where
   pub generation : ℕ
   pub bodies : List (List ℕ)
   pub ready : IsReady first generation bodies end
@@ -72,14 +72,14 @@ pub record IsStored (first : Meaning) (limits : Limits) (cache : Cache) (end : �
 -- the premise: the disks tell what they hold, and at the opening each crash left a sound state
 pub record IsHonest (tells : Bool) (line : Timeline Images) (limits : Limits) (opened : ℕ) : Type 0 where
   pub told : IsTrue tells
-  pub sound : (im : Images) → line.left opened im → (state : Cache) × Opens limits im state × IsSound state
+  pub sound : (im : Images) → line.left opened im → (state : Cache) × OpensAs limits im state × IsSound state
 
 -- it opens to a sound state whose index is what the first of the steps leave
 pub record OpensSome (limits : Limits) (steps : List Step) (im : Images) : Type 0 where
   pub n : ℕ
   pub within : n ≤ length steps
   pub state : Cache
-  pub opens : Opens limits im state
+  pub opens : OpensAs limits im state
   pub index : state.index ≡ after_steps (empty_state limits) (take n steps)
   pub sound : IsSound state
 
@@ -88,10 +88,10 @@ abbrev pub EachFrom : {I : Type 0} → Timeline I → ℕ → (I → Type 0) →
 EachFrom {I} line from P = (t : ℕ) (image : I) → from ≤ t → line.left t image → P image
 
 pub record IsBook {D : Type 0} (tells : Bool) (meaning : D → Meaning) (book : BookView D) (end : ℕ) : Type 0 where
-  pub history : IsHistory (limits_of book) book.steps book.cache.index (faults_of meaning book)
+  pub history : IsHistory (limits_of book) book.steps book.cache.index (book_faults meaning book)
   pub has_bytes : HasBytes book.cache
   pub whole : AreWhole book.cache.index
-  pub time : book.opened ≤ (line_of meaning book).moment
-  pub now : IsTrue tells → broken_by book.steps ≡ None → IsStored (meaning book.devices.first) (limits_of book) book.cache end
-  pub sound : IsHonest tells (line_of meaning book) (limits_of book) book.opened → IsSound book.cache
-  pub since : IsHonest tells (line_of meaning book) (limits_of book) book.opened → (t : ℕ) (im : Images) → book.opened ≤ t → (line_of meaning book).left t im → OpensSome (limits_of book) book.steps im
+  pub time : book.opened ≤ (book_line meaning book).moment
+  pub now : IsTrue tells → broken_by book.steps ≡ None → IsInJournal (meaning book.devices.first) (limits_of book) book.cache end
+  pub sound : IsHonest tells (book_line meaning book) (limits_of book) book.opened → IsSound book.cache
+  pub since : IsHonest tells (book_line meaning book) (limits_of book) book.opened → (t : ℕ) (im : Images) → book.opened ≤ t → (book_line meaning book).left t im → OpensSome (limits_of book) book.steps im

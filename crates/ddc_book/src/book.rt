@@ -11,17 +11,17 @@ ghost use Rattle.ddc_model.specs.Closure.{links_in, with_links, AreNeeds};
 ghost use Rattle.ddc_model.specs.Counts.{added, added_links, fresh_of, passes};
 ghost use Rattle.ddc_model.specs.Commands.{hour_of, is_done, object_of, touch_entry};
 ghost use Rattle.ddc_model.specs.History.{broken_by, no_room, past_of};
-ghost use Rattle.ddc_book.specs.Making.{full_by, IsRefusal, Serves};
-ghost use Rattle.ddc_book.specs.Opening.{Opens};
-ghost use Rattle.ddc_book.specs.View.{faults_of, limits_of, IsHonest, EachFrom, OpensSome};
+ghost use Rattle.ddc_book.specs.inside.Making.{full_by, IsRefusal, IsServing};
+ghost use Rattle.ddc_opening.specs.Opening.{OpensAs};
+ghost use Rattle.ddc_book.specs.View.{book_faults, limits_of, IsHonest, EachFrom, OpensSome};
 
-use crate::bytes::ByteTable;
 use crate::history::{History, added_links_of};
 use cb_fields::Link;
 use ddc_disk::{Devices, Disk, HeldDevices};
 use ddc_journal::Journal;
 use ddc_model::{Entry, NameBox, Step, StoreFault, Stored, What};
 use ddc_names::{IoHash, Namespace, NoMemory, RefName, Rows};
+use ddc_opening::Tables;
 use ddc_state::Index;
 use needs_resolver::{needs, needs_with};
 use std::alloc::Global;
@@ -35,22 +35,22 @@ use std::marker::Model;
 pub struct Book<D: Disk> {
     pub(crate) devices: HeldDevices<D>,
     pub(crate) journal: Journal,
-    pub(crate) index: Index,
-    pub(crate) bytes: ByteTable,
+    pub(crate) tables: Tables,
     pub(crate) history: History,
     pub(crate) opened: u64,
 }
 
 impl<D: Disk> Model for Book<D> {
+    ghost use Rattle.ddc_opening.specs.Tables.{cache_of};
     ghost use Rattle.ddc_book.specs.View.{BookView, coded_book, IsBook};
 
     ghost Value = { BookView D };
 
     ghost coded = { coded_book D.code };
 
-    ghost view = { λ b. record { devices = b.devices; cache = record { index = b.index.state; bytes = b.bytes }; steps = b.history; opened = b.opened } };
+    ghost view = { λ b. record { devices = b.devices; cache = cache_of b.tables; steps = b.history; opened = b.opened } };
 
-    ghost invariant = { λ b. IsBook D.tells D.meaning (record { devices = b.devices; cache = record { index = b.index.state; bytes = b.bytes }; steps = b.history; opened = b.opened }) b.journal };
+    ghost invariant = { λ b. IsBook D.tells D.meaning (record { devices = b.devices; cache = cache_of b.tables; steps = b.history; opened = b.opened }) b.journal };
 }
 
 impl<D: Disk> Book<D> {
@@ -58,7 +58,7 @@ impl<D: Disk> Book<D> {
     /// they held a sound state when they were opened, each crash since leaves a sound state that some first steps leave.
     pub fn into_devices(self) -> Devices<D>
         ensures devices { result ≡ self.devices }
-        ensures opened { IsTrue D.tells → broken_by self.steps ≡ None → EachImage (devices_line D.meaning result) (λ im. Opens (limits_of self) im self.cache) }
+        ensures opened { IsTrue D.tells → broken_by self.steps ≡ None → EachImage (devices_line D.meaning result) (λ im. OpensAs (limits_of self) im self.cache) }
         ensures since { IsHonest D.tells (devices_line D.meaning result) (limits_of self) self.opened → EachFrom (devices_line D.meaning result) self.opened (OpensSome (limits_of self) self.steps) }
     {
         let Book { devices, .. } = self;
@@ -82,7 +82,7 @@ impl<D: Disk> Book<D> {
     pub fn index(&self) -> &Index
         ensures { result.now.state ≡ self.now.cache.index }
     {
-        &self.index
+        &self.tables.index
     }
 
     /// The steps since before the opening: the changes that the store was opened with, the opening, and its own.
@@ -101,7 +101,7 @@ impl<D: Disk> Book<D> {
 
     /// How often the devices have failed, up to 2^64 - 1.
     pub fn faults(&self) -> u64
-        ensures { result ≡ faults_of D.meaning self.now }
+        ensures { result ≡ book_faults D.meaning self.now }
     {
         self.devices.faults()
     }
@@ -112,7 +112,7 @@ impl<D: Disk> Book<D> {
     // The count of faults at which it broke.
     pub(crate) fn broken(&self) -> Option<u64>
         ensures count { result ≡ broken_by self.now.steps }
-        ensures serves { broken_by self.now.steps ≡ None → Serves D.tells D.meaning self.now }
+        ensures serves { broken_by self.now.steps ≡ None → IsServing D.tells D.meaning self.now }
     {
         let _ = &self.devices;
         self.history.broken()
@@ -121,20 +121,20 @@ impl<D: Disk> Book<D> {
     pub(crate) fn has_space(&self, space: &Namespace) -> bool
         ensures { result ≡ has_space self.now.cache.index space.now }
     {
-        self.index.space(space).is_some()
+        self.tables.index.space(space).is_some()
     }
 
     pub(crate) fn hour_of(&self, hour: u32) -> u32
         ensures { result ≡ hour_of self.now.cache.index hour }
     {
-        self.index.hour().max(hour)
+        self.tables.index.hour().max(hour)
     }
 
     // The hour at which a blob was stored or named last.
     pub(crate) fn pinned_at(&self, space: &Namespace, hash: &IoHash) -> Option<u32>
         ensures { result ≡ option_map (λ blob. blob.row.at) (blob_at self.now.cache.index space.now hash.now) }
     {
-        match self.index.blob(space, hash) {
+        match self.tables.index.blob(space, hash) {
             Some(row) => Some(row.at),
             None => None,
         }
@@ -148,7 +148,7 @@ impl<D: Disk> Book<D> {
         if !self.has_space(&name.space) {
             return Err(StoreFault::UnknownSpace);
         }
-        match self.index.refs().get(name) {
+        match self.tables.index.refs().get(name) {
             None => Err(StoreFault::NotFound),
             Some(slot) => {
                 if is_hash(slot.done, hash) {
@@ -170,7 +170,7 @@ impl<D: Disk> Book<D> {
         if !self.has_space(&name.space) {
             return Err(StoreFault::UnknownSpace);
         }
-        match self.index.refs().get(name) {
+        match self.tables.index.refs().get(name) {
             None => Err(StoreFault::NotFound),
             Some(slot) => slot.done.ok_or(StoreFault::NotFinalised),
         }
@@ -186,7 +186,7 @@ impl<D: Disk> Book<D> {
         ensures { IfOk result (λ made. made ≡ touch_entry self.now.cache.index name.now hour) }
     {
         let hour = self.hour_of(hour);
-        match self.index.refs().get(name) {
+        match self.tables.index.refs().get(name) {
             Some(slot) if slot.seen < hour => {
                 let name = NameBox::new(alloc, *name)?;
                 Ok(Some(Entry::Touch { name, hour }))
@@ -200,21 +200,21 @@ impl<D: Disk> Book<D> {
         ensures fault { result ≡ full_by self.now.cache.index spaces (option_copied fresh.entry) refs }
         ensures refusal { IfSome result IsRefusal }
     {
-        let limits = self.index.limits();
+        let limits = self.tables.index.limits();
         let (blobs, links) = match fresh {
             None => (0, 0),
             Some(blob) => (1, blob.links.len() as u64),
         };
-        if passes(self.index.space_count(), spaces, limits.spaces as u64) {
+        if passes(self.tables.index.space_count(), spaces, limits.spaces as u64) {
             return full_of(What::Spaces, limits.spaces as u64);
         }
-        if passes(self.index.blob_count(), blobs, limits.blobs) {
+        if passes(self.tables.index.blob_count(), blobs, limits.blobs) {
             return full_of(What::Blobs, limits.blobs);
         }
-        if passes(self.index.refs().len(), refs, limits.refs) {
+        if passes(self.tables.index.refs().len(), refs, limits.refs) {
             return full_of(What::Refs, limits.refs);
         }
-        if passes(self.index.link_count(), links, limits.links) {
+        if passes(self.tables.index.link_count(), links, limits.links) {
             return full_of(What::Links, limits.links);
         }
         None
@@ -229,7 +229,7 @@ impl<D: Disk> Book<D> {
     pub(crate) fn added_refs(&self, name: &RefName) -> u64
         ensures { result ≡ added (is_some (map.get self.now.cache.index.slots name.now)) }
     {
-        match self.index.refs().get(name) {
+        match self.tables.index.refs().get(name) {
             None => 1,
             Some(_) => 0,
         }
@@ -240,7 +240,7 @@ impl<D: Disk> Book<D> {
         ensures fault { result ≡ no_room self.now.cache.index (past_of self.now.steps) entry.now }
         ensures refusal { IfSome result IsRefusal }
     {
-        let limits = self.index.limits();
+        let limits = self.tables.index.limits();
         let (entries, links) = (self.history.entries(), self.history.links());
         if limits.entries <= entries
             || limits.entry_links < links
@@ -261,7 +261,7 @@ impl<D: Disk> Book<D> {
         ensures same { self.new ≡ self.old }
         ensures needs { IfOk result (λ needs. AreNeeds (links_in self.old.cache.index space.now) root needs) }
     {
-        needs(alloc, &mut self.index, space, root)
+        needs(alloc, &mut self.tables.index, space, root)
     }
 
     // What will be missing of an object that isn't there, and has these links.
@@ -275,7 +275,7 @@ impl<D: Disk> Book<D> {
         ensures same { self.new ≡ self.old }
         ensures needs { IfOk result (λ needs. AreNeeds (with_links (links_in self.old.cache.index space.now) root links.now) root needs) }
     {
-        needs_with(alloc, &mut self.index, space, root, links)
+        needs_with(alloc, &mut self.tables.index, space, root, links)
     }
 }
 

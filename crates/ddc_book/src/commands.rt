@@ -10,9 +10,9 @@ ghost use Rattle.ddc_model.specs.Content.{IsContent, content_hash};
 ghost use Rattle.ddc_model.specs.Commands.{hour_of, is_done, needs_none, stored_content, SpaceAs, UploadAs, PutAs, FinaliseAs};
 ghost use Rattle.ddc_model.specs.History.{past_of, WithRoom};
 ghost use Rattle.ddc_model.specs.Reads.{DeleteAs, HeldAs};
-ghost use Rattle.ddc_book.specs.Calls.{Gives, GoesOn, got};
-ghost use Rattle.ddc_book.specs.Making.{touch_with_room, Serves};
-ghost use Rattle.ddc_book.specs.View.{faults_of};
+ghost use Rattle.ddc_book.specs.Calls.{CommandGives, GoesOn, got};
+ghost use Rattle.ddc_book.specs.inside.Making.{touch_with_room, IsServing};
+ghost use Rattle.ddc_book.specs.View.{book_faults};
 
 use crate::{Book, Held};
 use ddc_disk::Disk;
@@ -37,9 +37,9 @@ impl<D: Disk> Book<D> {
     ) -> Result<(), StoreFault>
         requires ttl { is_time ttl ≡ true }
         requires pin { is_time pin ≡ true }
-        ensures gives { Gives self.old [] self.new (WithRoom self.old.cache.index (past_of self.old.steps) (SpaceAs self.old.cache.index space ttl pin)) result }
+        ensures gives { CommandGives self.old [] self.new (WithRoom self.old.cache.index (past_of self.old.steps) (SpaceAs self.old.cache.index space ttl pin)) result }
         ensures goes_on { GoesOn D.tells D.meaning self.old self.new }
-        ensures cause { result ≡ Err StoreFault.DiskFailed → Rose (faults_of D.meaning self.old) (faults_of D.meaning self.new) }
+        ensures cause { result ≡ Err StoreFault.DiskFailed → Rose (book_faults D.meaning self.old) (book_faults D.meaning self.new) }
     {
         if let Some(faults) = self.broken() {
             return Err(StoreFault::Broken { faults });
@@ -65,9 +65,9 @@ impl<D: Disk> Book<D> {
         hour: u32,
     ) -> Result<(), StoreFault>
         requires { length blob.bytes ≤ most_bytes }
-        ensures gives { Gives self.old blob.bytes self.new (WithRoom self.old.cache.index (past_of self.old.steps) (UploadAs self.old.cache.index space blob hour)) result }
+        ensures gives { CommandGives self.old blob.bytes self.new (WithRoom self.old.cache.index (past_of self.old.steps) (UploadAs self.old.cache.index space blob hour)) result }
         ensures goes_on { GoesOn D.tells D.meaning self.old self.new }
-        ensures cause { result ≡ Err StoreFault.DiskFailed → Rose (faults_of D.meaning self.old) (faults_of D.meaning self.new) }
+        ensures cause { result ≡ Err StoreFault.DiskFailed → Rose (book_faults D.meaning self.old) (book_faults D.meaning self.new) }
     {
         if let Some(faults) = self.broken() {
             return Err(StoreFault::Broken { faults });
@@ -98,9 +98,9 @@ impl<D: Disk> Book<D> {
     ) -> Result<Rows<IoHash>, StoreFault>
         requires is_object { object.is_object ≡ true }
         requires short { length object.bytes ≤ most_bytes }
-        ensures gives { Gives self.old object.bytes self.new (WithRoom self.old.cache.index (past_of self.old.steps) (PutAs self.old.cache.index name object hour)) result }
+        ensures gives { CommandGives self.old object.bytes self.new (WithRoom self.old.cache.index (past_of self.old.steps) (PutAs self.old.cache.index name object hour)) result }
         ensures goes_on { GoesOn D.tells D.meaning self.old self.new }
-        ensures cause { result ≡ Err StoreFault.DiskFailed → Rose (faults_of D.meaning self.old) (faults_of D.meaning self.new) }
+        ensures cause { result ≡ Err StoreFault.DiskFailed → Rose (book_faults D.meaning self.old) (book_faults D.meaning self.new) }
     {
         if let Some(faults) = self.broken() {
             return Err(StoreFault::Broken { faults });
@@ -129,9 +129,9 @@ impl<D: Disk> Book<D> {
         hash: IoHash,
         hour: u32,
     ) -> Result<Rows<IoHash>, StoreFault>
-        ensures gives { Gives self.old [] self.new (WithRoom self.old.cache.index (past_of self.old.steps) (FinaliseAs self.old.cache.index name.now hash hour)) result }
+        ensures gives { CommandGives self.old [] self.new (WithRoom self.old.cache.index (past_of self.old.steps) (FinaliseAs self.old.cache.index name.now hash hour)) result }
         ensures goes_on { GoesOn D.tells D.meaning self.old self.new }
-        ensures cause { result ≡ Err StoreFault.DiskFailed → Rose (faults_of D.meaning self.old) (faults_of D.meaning self.new) }
+        ensures cause { result ≡ Err StoreFault.DiskFailed → Rose (book_faults D.meaning self.old) (book_faults D.meaning self.new) }
     {
         if let Some(faults) = self.broken() {
             return Err(StoreFault::Broken { faults });
@@ -151,9 +151,9 @@ impl<D: Disk> Book<D> {
     /// `Broken`, `UnknownSpace`, `NotFound` of the reference, `NotFinalised`, `NoMemory`, `DiskFailed`, or `Damaged`
     /// where the object's bytes have another hash. The book is as before, but after `DiskFailed`.
     pub fn get_ref(&mut self, alloc: Global, name: &RefName, hour: u32) -> Result<Held, StoreFault>
-        ensures gives { Gives self.old [] self.new (λ answer made. HeldAs self.old.cache (past_of self.old.steps) name.now hour (got answer) made) result }
+        ensures gives { CommandGives self.old [] self.new (λ answer made. HeldAs self.old.cache (past_of self.old.steps) name.now hour (got answer) made) result }
         ensures goes_on { GoesOn D.tells D.meaning self.old self.new }
-        ensures cause { result ≡ Err StoreFault.DiskFailed → Rose (faults_of D.meaning self.old) (faults_of D.meaning self.new) }
+        ensures cause { result ≡ Err StoreFault.DiskFailed → Rose (book_faults D.meaning self.old) (book_faults D.meaning self.new) }
     {
         if let Some(faults) = self.broken() {
             return Err(StoreFault::Broken { faults });
@@ -186,9 +186,9 @@ impl<D: Disk> Book<D> {
     /// `Broken`, `UnknownSpace`, `NotFound` of the reference, `HistoryFull`, `NoMemory` or `DiskFailed`. The book is as
     /// before, but after `DiskFailed`.
     pub fn delete(&mut self, alloc: Global, name: &RefName, hour: u32) -> Result<(), StoreFault>
-        ensures gives { Gives self.old [] self.new (WithRoom self.old.cache.index (past_of self.old.steps) (DeleteAs self.old.cache.index name.now hour)) result }
+        ensures gives { CommandGives self.old [] self.new (WithRoom self.old.cache.index (past_of self.old.steps) (DeleteAs self.old.cache.index name.now hour)) result }
         ensures goes_on { GoesOn D.tells D.meaning self.old self.new }
-        ensures cause { result ≡ Err StoreFault.DiskFailed → Rose (faults_of D.meaning self.old) (faults_of D.meaning self.new) }
+        ensures cause { result ≡ Err StoreFault.DiskFailed → Rose (book_faults D.meaning self.old) (book_faults D.meaning self.new) }
     {
         if let Some(faults) = self.broken() {
             return Err(StoreFault::Broken { faults });
@@ -220,13 +220,13 @@ impl<D: Disk> Book<D> {
         blob: Checked,
         hour: u32,
     ) -> Result<(), StoreFault>
-        requires serves { Serves D.tells D.meaning self.old }
+        requires serves { IsServing D.tells D.meaning self.old }
         requires known { has_space self.old.cache.index space.now ≡ true }
         requires absent { option_map (λ found. found.row.at) (blob_at self.old.cache.index space.now (content_hash blob.bytes)) ≡ None }
         requires short { length blob.bytes ≤ most_bytes }
-        ensures gives { Gives self.old blob.bytes self.new (WithRoom self.old.cache.index (past_of self.old.steps) (UploadAs self.old.cache.index space.now blob hour)) result }
+        ensures gives { CommandGives self.old blob.bytes self.new (WithRoom self.old.cache.index (past_of self.old.steps) (UploadAs self.old.cache.index space.now blob hour)) result }
         ensures goes_on { GoesOn D.tells D.meaning self.old self.new }
-        ensures cause { result ≡ Err StoreFault.DiskFailed → Rose (faults_of D.meaning self.old) (faults_of D.meaning self.new) }
+        ensures cause { result ≡ Err StoreFault.DiskFailed → Rose (book_faults D.meaning self.old) (book_faults D.meaning self.new) }
     {
         let Ok(fresh) = stored(alloc, &blob) else {
             return Err(StoreFault::NoMemory);
@@ -251,13 +251,13 @@ impl<D: Disk> Book<D> {
         at: u32,
         hour: u32,
     ) -> Result<(), StoreFault>
-        requires serves { Serves D.tells D.meaning self.old }
+        requires serves { IsServing D.tells D.meaning self.old }
         requires known { has_space self.old.cache.index space.now ≡ true }
         requires there { option_map (λ found. found.row.at) (blob_at self.old.cache.index space.now (content_hash blob.now.bytes)) ≡ Some at }
         requires short { length blob.now.bytes ≤ most_bytes }
-        ensures gives { Gives self.old blob.now.bytes self.new (WithRoom self.old.cache.index (past_of self.old.steps) (UploadAs self.old.cache.index space.now blob.now hour)) result }
+        ensures gives { CommandGives self.old blob.now.bytes self.new (WithRoom self.old.cache.index (past_of self.old.steps) (UploadAs self.old.cache.index space.now blob.now hour)) result }
         ensures goes_on { GoesOn D.tells D.meaning self.old self.new }
-        ensures cause { result ≡ Err StoreFault.DiskFailed → Rose (faults_of D.meaning self.old) (faults_of D.meaning self.new) }
+        ensures cause { result ≡ Err StoreFault.DiskFailed → Rose (book_faults D.meaning self.old) (book_faults D.meaning self.new) }
     {
         let hour = self.hour_of(hour);
         if at < hour {
@@ -301,13 +301,13 @@ impl<D: Disk> Book<D> {
         object: Checked,
         hour: u32,
     ) -> Result<Rows<IoHash>, StoreFault>
-        requires serves { Serves D.tells D.meaning self.old }
+        requires serves { IsServing D.tells D.meaning self.old }
         requires known { has_space self.old.cache.index name.now.space ≡ true }
         requires absent { option_map (λ found. found.row.at) (blob_at self.old.cache.index name.now.space (content_hash object.bytes)) ≡ None }
         requires short { length object.bytes ≤ most_bytes }
-        ensures gives { Gives self.old object.bytes self.new (WithRoom self.old.cache.index (past_of self.old.steps) (PutAs self.old.cache.index name.now object hour)) result }
+        ensures gives { CommandGives self.old object.bytes self.new (WithRoom self.old.cache.index (past_of self.old.steps) (PutAs self.old.cache.index name.now object hour)) result }
         ensures goes_on { GoesOn D.tells D.meaning self.old self.new }
-        ensures cause { result ≡ Err StoreFault.DiskFailed → Rose (faults_of D.meaning self.old) (faults_of D.meaning self.new) }
+        ensures cause { result ≡ Err StoreFault.DiskFailed → Rose (book_faults D.meaning self.old) (book_faults D.meaning self.new) }
     {
         let Ok(fresh) = stored(alloc, &object) else {
             return Err(StoreFault::NoMemory);
@@ -333,13 +333,13 @@ impl<D: Disk> Book<D> {
         object: &Checked,
         hour: u32,
     ) -> Result<Rows<IoHash>, StoreFault>
-        requires serves { Serves D.tells D.meaning self.old }
+        requires serves { IsServing D.tells D.meaning self.old }
         requires known { has_space self.old.cache.index name.now.space ≡ true }
         requires there { is_some (option_map (λ found. found.row.at) (blob_at self.old.cache.index name.now.space (content_hash object.now.bytes))) ≡ true }
         requires short { length object.now.bytes ≤ most_bytes }
-        ensures gives { Gives self.old object.now.bytes self.new (WithRoom self.old.cache.index (past_of self.old.steps) (PutAs self.old.cache.index name.now object.now hour)) result }
+        ensures gives { CommandGives self.old object.now.bytes self.new (WithRoom self.old.cache.index (past_of self.old.steps) (PutAs self.old.cache.index name.now object.now hour)) result }
         ensures goes_on { GoesOn D.tells D.meaning self.old self.new }
-        ensures cause { result ≡ Err StoreFault.DiskFailed → Rose (faults_of D.meaning self.old) (faults_of D.meaning self.new) }
+        ensures cause { result ≡ Err StoreFault.DiskFailed → Rose (book_faults D.meaning self.old) (book_faults D.meaning self.new) }
     {
         if let Some(fault) = self.full(0, None, self.added_refs(name)) {
             return Err(fault);
@@ -362,11 +362,11 @@ impl<D: Disk> Book<D> {
         hash: IoHash,
         hour: u32,
     ) -> Result<Rows<IoHash>, StoreFault>
-        requires serves { Serves D.tells D.meaning self.old }
+        requires serves { IsServing D.tells D.meaning self.old }
         requires pending { is_done self.old.cache.index name.now hash ≡ Ok false }
-        ensures gives { Gives self.old [] self.new (WithRoom self.old.cache.index (past_of self.old.steps) (FinaliseAs self.old.cache.index name.now hash hour)) result }
+        ensures gives { CommandGives self.old [] self.new (WithRoom self.old.cache.index (past_of self.old.steps) (FinaliseAs self.old.cache.index name.now hash hour)) result }
         ensures goes_on { GoesOn D.tells D.meaning self.old self.new }
-        ensures cause { result ≡ Err StoreFault.DiskFailed → Rose (faults_of D.meaning self.old) (faults_of D.meaning self.new) }
+        ensures cause { result ≡ Err StoreFault.DiskFailed → Rose (book_faults D.meaning self.old) (book_faults D.meaning self.new) }
     {
         let Ok(missing) = self.missing(alloc, &name.space, hash) else {
             return Err(StoreFault::NoMemory);

@@ -6,31 +6,24 @@ ghost use Rattle.ddc_disk.specs.Disk.{EachSince};
 ghost use Rattle.ddc_disk.specs.Images.{devices_faults, devices_line};
 ghost use Rattle.ddc_entry.specs.Spelling.{spelling, IsEntry};
 ghost use Rattle.ddc_journal.specs.Journal.{IsReady, LoadsEither};
-ghost use Rattle.ddc_model.specs.declared.entry.Step.TheVariants.{Change};
 ghost use Rattle.ddc_model.specs.Limits.{most_bytes, most_links};
-ghost use Rattle.ddc_model.specs.State.{blob_at};
-ghost use Rattle.ddc_model.specs.Entries.{after, legal};
 ghost use Rattle.ddc_model.specs.Counts.{added_links, fresh_of};
-ghost use Rattle.ddc_model.specs.Sound.{HasBytes};
-ghost use Rattle.ddc_model.specs.Commands.{kept};
 ghost use Rattle.ddc_model.specs.History.{broken_by, no_room, past_of, WithRoom};
-ghost use Rattle.ddc_book.specs.Calls.{bytes_or_none, Commits, Gives, GoesOn};
-ghost use Rattle.ddc_book.specs.Making.{added_name, Brings, IsFit, Serves};
-ghost use Rattle.ddc_book.specs.View.{faults_of};
+ghost use Rattle.ddc_opening.specs.Tables.{bytes_or_none};
+ghost use Rattle.ddc_book.specs.Calls.{Commits, CommandGives, GoesOn};
+ghost use Rattle.ddc_book.specs.inside.Making.{IsFit, IsServing};
+ghost use Rattle.ddc_book.specs.View.{book_faults};
 
 use crate::Book;
-use crate::bytes::ByteTable;
-use crate::history::History;
 use ddc_disk::{Disk, HeldDevices};
 use ddc_entry::write_entry;
 use ddc_journal::{Framed, Journal};
-use ddc_model::{BlobName, Entry, StoreFault};
+use ddc_model::{Entry, StoreFault};
 use ddc_names::{Failed, NoMemory};
-use ddc_state::Index;
 use io_hash::Whole;
 use std::alloc::Global;
 
-// The entry as it is written, behind which stand the bytes of the blob that it adds.
+// The entry as it is written, followed by the bytes of the blob that it adds.
 fn written(alloc: Global, entry: &Entry, blob: &Option<Whole>) -> Result<Framed, NoMemory>
     requires few_links { added_links (fresh_of entry.now) ≤ most_links }
     requires short { length (bytes_or_none blob.now) ≤ most_bytes }
@@ -47,26 +40,6 @@ fn bytes_of(blob: &Option<Whole>) -> &[u8]
     match blob {
         Some(whole) => whole.bytes(),
         None => &[],
-    }
-}
-
-// The name of the blob that an entry adds.
-fn added_name(entry: &Entry) -> Option<BlobName>
-    ensures { result ≡ added_name entry.now }
-{
-    match entry {
-        Entry::Upload { space, blob, .. } => Some(BlobName {
-            space: *space,
-            hash: blob.hash,
-        }),
-        Entry::Put { name, fresh, .. } => match fresh {
-            Some(blob) => Some(BlobName {
-                space: name.get().space,
-                hash: blob.hash,
-            }),
-            None => None,
-        },
-        _ => None,
     }
 }
 
@@ -89,41 +62,6 @@ fn append<D: Disk>(
     }
 }
 
-// Makes an entry in memory: the bytes of its blob, the index and the step.
-fn keep(
-    alloc: Global,
-    index: &mut Index,
-    bytes: &mut ByteTable,
-    history: &mut History,
-    entry: Entry,
-    blob: Option<Whole>,
-) -> Result<(), NoMemory>
-    requires unbroken { broken_by history.old ≡ None }
-    requires legal { legal index.old.state entry ≡ true }
-    requires room { no_room index.old.state (past_of history.old) entry ≡ None }
-    requires brings { Brings (fresh_of entry) blob }
-    requires has_bytes { HasBytes (record { index = index.old.state; bytes = bytes.old }) }
-    ensures index { OnOk result (index.new.state ≡ after index.old.state entry) }
-    ensures bytes { OnOk result (bytes.new ≡ kept bytes.old entry (bytes_or_none blob)) }
-    ensures steps { OnOk result (history.new ≡ history.old ++ Change entry ∷ []) }
-    ensures err { OnErr result ((index.new.state ≡ index.old.state) × (bytes.new ≡ bytes.old) × (history.new ≡ history.old)) }
-{
-    let Some(whole) = blob else {
-        return history.make(alloc, index, entry);
-    };
-    let Some(name) = added_name(&entry) else {
-        return Err(NoMemory);
-    };
-    bytes.insert(&name, whole)?;
-    match history.make(alloc, index, entry) {
-        Ok(()) => Ok(()),
-        Err(NoMemory) => {
-            bytes.remove(&name);
-            Err(NoMemory)
-        }
-    }
-}
-
 impl<D: Disk> Book<D> {
     /// Makes an entry, with the blob that it adds. Every changing call goes through here.
     ///
@@ -141,20 +79,13 @@ impl<D: Disk> Book<D> {
         requires room { no_room self.old.cache.index (past_of self.old.steps) entry ≡ None }
         ensures gives { Commits self.old entry (bytes_or_none blob) self.new result }
         ensures goes_on { GoesOn D.tells D.meaning self.old self.new }
-        ensures cause { result ≡ Err StoreFault.DiskFailed → Rose (faults_of D.meaning self.old) (faults_of D.meaning self.new) }
+        ensures cause { result ≡ Err StoreFault.DiskFailed → Rose (book_faults D.meaning self.old) (book_faults D.meaning self.new) }
     {
         let before = self.devices.faults();
         let Ok(item) = written(alloc, &entry, &blob) else {
             return Err(StoreFault::NoMemory);
         };
-        let Ok(()) = keep(
-            alloc,
-            &mut self.index,
-            &mut self.bytes,
-            &mut self.history,
-            entry,
-            blob,
-        ) else {
+        let Ok(()) = self.history.make(alloc, &mut self.tables, entry, blob) else {
             return Err(StoreFault::NoMemory);
         };
         match append(&mut self.devices, &mut self.journal, &item) {
@@ -165,6 +96,7 @@ impl<D: Disk> Book<D> {
             }
         }
     }
+
     // Makes the entry of a command, where the history has room for it, and answers this.
     pub(crate) fn make<A: Drop>(
         &mut self,
@@ -173,11 +105,11 @@ impl<D: Disk> Book<D> {
         blob: Option<Whole>,
         answer: A,
     ) -> Result<A, StoreFault>
-        requires serves { Serves D.tells D.meaning self.old }
+        requires serves { IsServing D.tells D.meaning self.old }
         requires fit { IsFit self.old.cache entry blob }
-        ensures gives { Gives self.old (bytes_or_none blob) self.new (WithRoom self.old.cache.index (past_of self.old.steps) (λ wished made. (wished ≡ Ok answer) × (made ≡ Some entry))) result }
+        ensures gives { CommandGives self.old (bytes_or_none blob) self.new (WithRoom self.old.cache.index (past_of self.old.steps) (λ wished made. (wished ≡ Ok answer) × (made ≡ Some entry))) result }
         ensures goes_on { GoesOn D.tells D.meaning self.old self.new }
-        ensures cause { result ≡ Err StoreFault.DiskFailed → Rose (faults_of D.meaning self.old) (faults_of D.meaning self.new) }
+        ensures cause { result ≡ Err StoreFault.DiskFailed → Rose (book_faults D.meaning self.old) (book_faults D.meaning self.new) }
     {
         if let Some(fault) = self.no_room(&entry) {
             return Err(fault);

@@ -1,18 +1,22 @@
 //! The steps of a store, and what is counted of them.
 
-ghost use Rattle.std.specs.Prelude.{◌≡◌, ◌++◌, ◌∷◌, [], true, None, length, IfOk, OnErr, OnOk};
+ghost use Rattle.std.specs.Prelude.{◌≡◌, ◌++◌, ◌∷◌, [], true, None, Some, length, IfOk, OnErr, OnOk};
 ghost use Rattle.ddc_model.specs.declared.entry.Step.TheVariants.{Loaded, Change, Broke};
 ghost use Rattle.ddc_model.specs.Counts.{added_links, fresh_of};
-ghost use Rattle.ddc_model.specs.Entries.{after, legal};
+ghost use Rattle.ddc_model.specs.Entries.{legal};
+ghost use Rattle.ddc_model.specs.Commands.{changed};
+ghost use Rattle.ddc_model.specs.Sound.{HasBytes};
 ghost use Rattle.ddc_model.specs.History.{broken_by, no_room, past_of};
+ghost use Rattle.ddc_opening.specs.Tables.{bytes_or_none, cache_of, Brings};
 
 use ddc_model::{Entry, Limits, Step};
 use ddc_names::{NoMemory, Rows};
-use ddc_state::Index;
+use ddc_opening::{Tables, fresh_of};
+use io_hash::Whole;
 use std::alloc::Global;
 use std::marker::Model;
 
-// Contracts see the list of the steps. The counts are those behind the opening. Where the store isn't broken, there is
+// Contracts see the list of the steps. The counts are those since the opening. Where the store isn't broken, there is
 // room for one step more, so that it can be noted without memory that it broke.
 #[derive(Drop)]
 pub(crate) struct History {
@@ -25,7 +29,7 @@ pub(crate) struct History {
 impl Model for History {
     ghost use Rattle.std.specs.Prelude.{List, vec_len, vec_capacity};
     ghost use Rattle.ddc_model.specs.declared.entry.Step.{Step};
-    ghost use Rattle.ddc_book.specs.Tallies.{IsTallied};
+    ghost use Rattle.ddc_book.specs.inside.Tallies.{IsTallied};
 
     ghost Value = { List Step };
 
@@ -51,7 +55,7 @@ impl History {
         })
     }
 
-    /// Makes an entry in the index, and its step.
+    /// Makes an entry with the blob that it adds, and its step.
     ///
     /// # Errors
     ///
@@ -59,27 +63,30 @@ impl History {
     pub(crate) fn make(
         &mut self,
         alloc: Global,
-        index: &mut Index,
+        tables: &mut Tables,
         entry: Entry,
+        blob: Option<Whole>,
     ) -> Result<(), NoMemory>
         requires unbroken { broken_by self.old ≡ None }
-        requires legal { legal index.old.state entry ≡ true }
-        requires room { no_room index.old.state (past_of self.old) entry ≡ None }
-        ensures index { OnOk result (index.new.state ≡ after index.old.state entry) }
+        requires legal { legal tables.old.index.state entry ≡ true }
+        requires room { no_room tables.old.index.state (past_of self.old) entry ≡ None }
+        requires brings { Brings (fresh_of entry) blob }
+        requires has_bytes { HasBytes (cache_of tables.old) }
+        ensures cache { OnOk result (cache_of tables.new ≡ changed (cache_of tables.old) (bytes_or_none blob) (Some entry)) }
         ensures steps { OnOk result (self.new ≡ self.old ++ Change entry ∷ []) }
-        ensures err { OnErr result ((index.new.state ≡ index.old.state) × (self.new ≡ self.old)) }
+        ensures err { OnErr result ((cache_of tables.new ≡ cache_of tables.old) × (self.new ≡ self.old)) }
     {
         // an entry that has room keeps the counts within these, which have 64 bits
-        let _limits = index.limits();
+        let _limits = tables.index.limits();
         self.steps.reserve(2)?;
-        index.apply(alloc, &entry)?;
+        tables.make(alloc, &entry, blob)?;
         self.entries += 1;
         self.links += added_links_of(&entry);
         self.steps.push_reserved(Step::Change(entry));
         Ok(())
     }
 
-    /// Notes that a call failed at the disks behind its entry.
+    /// Notes that a call failed at the disks while its entry was written.
     pub(crate) fn note_broken(&mut self, before: u64, now: u64)
         requires { broken_by self.old ≡ None }
         ensures { self.new ≡ self.old ++ Broke true before now ∷ [] }
@@ -136,12 +143,8 @@ impl History {
 pub(crate) fn added_links_of(entry: &Entry) -> u64
     ensures { result ≡ added_links (fresh_of entry.now) }
 {
-    match entry {
-        Entry::Upload { blob, .. } => blob.links.len() as u64,
-        Entry::Put { fresh, .. } => match fresh {
-            Some(blob) => blob.links.len() as u64,
-            None => 0,
-        },
-        _ => 0,
+    match fresh_of(entry) {
+        Some(blob) => blob.links.len() as u64,
+        None => 0,
     }
 }

@@ -7,7 +7,7 @@ ghost use Rattle.ddc_names.specs.Orders.{io_hash_cmp};
 ghost use Rattle.ddc_model.specs.Commands.{fetch};
 ghost use Rattle.ddc_model.specs.History.{unless_broken};
 ghost use Rattle.ddc_model.specs.Reads.{length_at, peek, serve, verify, AreAbsent};
-ghost use Rattle.ddc_book.specs.Calls.{IsExist, whole};
+ghost use Rattle.ddc_book.specs.Calls.{IsExist, opened_bytes};
 
 use crate::Book;
 use ddc_disk::Disk;
@@ -48,7 +48,7 @@ impl<D: Disk> Book<D> {
             Ok(hash) => hash,
             Err(fault) => return Err(fault),
         };
-        match self.index.blob(&name.space, &hash) {
+        match self.tables.index.blob(&name.space, &hash) {
             Some(row) => Ok((hash, row.len)),
             None => Err(StoreFault::NotFound),
         }
@@ -68,7 +68,7 @@ impl<D: Disk> Book<D> {
         if !self.has_space(space) {
             return Err(StoreFault::UnknownSpace);
         }
-        match self.index.blob(space, &hash) {
+        match self.tables.index.blob(space, &hash) {
             Some(row) => Ok(row.len),
             None => Err(StoreFault::NotFound),
         }
@@ -86,7 +86,7 @@ impl<D: Disk> Book<D> {
         space: &Namespace,
         hash: IoHash,
     ) -> Result<Opened, StoreFault>
-        ensures gives { (result ≡ Err StoreFault.NoMemory) ⊎ (whole result ≡ unless_broken self.old.steps (serve self.old.cache space.now hash)) }
+        ensures gives { (result ≡ Err StoreFault.NoMemory) ⊎ (opened_bytes result ≡ unless_broken self.old.steps (serve self.old.cache space.now hash)) }
         ensures same { self.new ≡ self.old }
     {
         if let Some(faults) = self.broken() {
@@ -117,7 +117,7 @@ impl<D: Disk> Book<D> {
         if !self.has_space(space) {
             return Err(StoreFault::UnknownSpace);
         }
-        match absent(alloc, &self.index, space, hashes) {
+        match absent(alloc, &self.tables.index, space, hashes) {
             Ok(list) => Ok(list),
             Err(NoMemory) => Err(StoreFault::NoMemory),
         }
@@ -154,7 +154,7 @@ impl<D: Disk> Book<D> {
             space: *space,
             hash: *hash,
         };
-        match self.bytes.get(&name) {
+        match self.tables.bytes.get(&name) {
             Some(blob) => Ok(blob),
             None => Err(StoreFault::NotFound),
         }

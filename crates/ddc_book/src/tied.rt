@@ -9,10 +9,10 @@ ghost use Rattle.ddc_model.specs.Entries.{is_time};
 ghost use Rattle.ddc_model.specs.Commands.{SpaceAs, UploadAs, PutAs, FinaliseAs};
 ghost use Rattle.ddc_model.specs.History.{broken_by, past_of, unless_broken, WithRoom};
 ghost use Rattle.ddc_model.specs.Reads.{length_at, peek, serve, verify, DeleteAs, HeldAs};
-ghost use Rattle.ddc_book.specs.Calls.{got, whole, Gives, GoesOn, IsExist};
-ghost use Rattle.ddc_book.specs.Opening.{Opens};
+ghost use Rattle.ddc_book.specs.Calls.{got, opened_bytes, CommandGives, GoesOn, IsExist};
+ghost use Rattle.ddc_opening.specs.Opening.{OpensAs};
 ghost use Rattle.ddc_book.specs.Tied.{GoesOnFrom};
-ghost use Rattle.ddc_book.specs.View.{faults_of, limits_of, IsHonest, EachFrom, OpensSome};
+ghost use Rattle.ddc_book.specs.View.{book_faults, limits_of, IsHonest, EachFrom, OpensSome};
 
 use crate::{Book, Held, Opened};
 use ddc_disk::{Devices, Disk};
@@ -68,7 +68,7 @@ impl<D: Disk, K: Opening> Tied<D, K> {
     pub fn into_devices(self) -> Devices<D>
         ensures devices { result ≡ self.devices }
         ensures tied { GoesOnFrom K.start D.meaning result }
-        ensures opened { IsTrue D.tells → broken_by self.steps ≡ None → EachImage (devices_line D.meaning result) (λ im. Opens (limits_of self) im self.cache) }
+        ensures opened { IsTrue D.tells → broken_by self.steps ≡ None → EachImage (devices_line D.meaning result) (λ im. OpensAs (limits_of self) im self.cache) }
         ensures since { IsHonest D.tells (devices_line D.meaning result) (limits_of self) self.opened → EachFrom (devices_line D.meaning result) self.opened (OpensSome (limits_of self) self.steps) }
     {
         let Tied { book, of: _ } = self;
@@ -98,7 +98,7 @@ impl<D: Disk, K: Opening> Tied<D, K> {
 
     /// How often the devices have failed, up to 2^64 - 1.
     pub fn faults(&self) -> u64
-        ensures { result ≡ faults_of D.meaning self.now }
+        ensures { result ≡ book_faults D.meaning self.now }
     {
         self.book.faults()
     }
@@ -116,9 +116,9 @@ impl<D: Disk, K: Opening> Tied<D, K> {
     ) -> Result<(), StoreFault>
         requires ttl { is_time ttl ≡ true }
         requires pin { is_time pin ≡ true }
-        ensures gives { Gives self.old [] self.new (WithRoom self.old.cache.index (past_of self.old.steps) (SpaceAs self.old.cache.index space ttl pin)) result }
+        ensures gives { CommandGives self.old [] self.new (WithRoom self.old.cache.index (past_of self.old.steps) (SpaceAs self.old.cache.index space ttl pin)) result }
         ensures goes_on { GoesOn D.tells D.meaning self.old self.new }
-        ensures cause { result ≡ Err StoreFault.DiskFailed → Rose (faults_of D.meaning self.old) (faults_of D.meaning self.new) }
+        ensures cause { result ≡ Err StoreFault.DiskFailed → Rose (book_faults D.meaning self.old) (book_faults D.meaning self.new) }
     {
         self.book.set_space(alloc, space, ttl, pin)
     }
@@ -132,9 +132,9 @@ impl<D: Disk, K: Opening> Tied<D, K> {
         hour: u32,
     ) -> Result<(), StoreFault>
         requires { length blob.bytes ≤ most_bytes }
-        ensures gives { Gives self.old blob.bytes self.new (WithRoom self.old.cache.index (past_of self.old.steps) (UploadAs self.old.cache.index space blob hour)) result }
+        ensures gives { CommandGives self.old blob.bytes self.new (WithRoom self.old.cache.index (past_of self.old.steps) (UploadAs self.old.cache.index space blob hour)) result }
         ensures goes_on { GoesOn D.tells D.meaning self.old self.new }
-        ensures cause { result ≡ Err StoreFault.DiskFailed → Rose (faults_of D.meaning self.old) (faults_of D.meaning self.new) }
+        ensures cause { result ≡ Err StoreFault.DiskFailed → Rose (book_faults D.meaning self.old) (book_faults D.meaning self.new) }
     {
         self.book.upload(alloc, space, blob, hour)
     }
@@ -149,9 +149,9 @@ impl<D: Disk, K: Opening> Tied<D, K> {
     ) -> Result<Rows<IoHash>, StoreFault>
         requires is_object { object.is_object ≡ true }
         requires short { length object.bytes ≤ most_bytes }
-        ensures gives { Gives self.old object.bytes self.new (WithRoom self.old.cache.index (past_of self.old.steps) (PutAs self.old.cache.index name object hour)) result }
+        ensures gives { CommandGives self.old object.bytes self.new (WithRoom self.old.cache.index (past_of self.old.steps) (PutAs self.old.cache.index name object hour)) result }
         ensures goes_on { GoesOn D.tells D.meaning self.old self.new }
-        ensures cause { result ≡ Err StoreFault.DiskFailed → Rose (faults_of D.meaning self.old) (faults_of D.meaning self.new) }
+        ensures cause { result ≡ Err StoreFault.DiskFailed → Rose (book_faults D.meaning self.old) (book_faults D.meaning self.new) }
     {
         self.book.put(alloc, name, object, hour)
     }
@@ -164,27 +164,27 @@ impl<D: Disk, K: Opening> Tied<D, K> {
         hash: IoHash,
         hour: u32,
     ) -> Result<Rows<IoHash>, StoreFault>
-        ensures gives { Gives self.old [] self.new (WithRoom self.old.cache.index (past_of self.old.steps) (FinaliseAs self.old.cache.index name.now hash hour)) result }
+        ensures gives { CommandGives self.old [] self.new (WithRoom self.old.cache.index (past_of self.old.steps) (FinaliseAs self.old.cache.index name.now hash hour)) result }
         ensures goes_on { GoesOn D.tells D.meaning self.old self.new }
-        ensures cause { result ≡ Err StoreFault.DiskFailed → Rose (faults_of D.meaning self.old) (faults_of D.meaning self.new) }
+        ensures cause { result ≡ Err StoreFault.DiskFailed → Rose (book_faults D.meaning self.old) (book_faults D.meaning self.new) }
     {
         self.book.finalise(alloc, name, hash, hour)
     }
 
     /// See [`Book::get_ref`].
     pub fn get_ref(&mut self, alloc: Global, name: &RefName, hour: u32) -> Result<Held, StoreFault>
-        ensures gives { Gives self.old [] self.new (λ answer made. HeldAs self.old.cache (past_of self.old.steps) name.now hour (got answer) made) result }
+        ensures gives { CommandGives self.old [] self.new (λ answer made. HeldAs self.old.cache (past_of self.old.steps) name.now hour (got answer) made) result }
         ensures goes_on { GoesOn D.tells D.meaning self.old self.new }
-        ensures cause { result ≡ Err StoreFault.DiskFailed → Rose (faults_of D.meaning self.old) (faults_of D.meaning self.new) }
+        ensures cause { result ≡ Err StoreFault.DiskFailed → Rose (book_faults D.meaning self.old) (book_faults D.meaning self.new) }
     {
         self.book.get_ref(alloc, name, hour)
     }
 
     /// See [`Book::delete`].
     pub fn delete(&mut self, alloc: Global, name: &RefName, hour: u32) -> Result<(), StoreFault>
-        ensures gives { Gives self.old [] self.new (WithRoom self.old.cache.index (past_of self.old.steps) (DeleteAs self.old.cache.index name.now hour)) result }
+        ensures gives { CommandGives self.old [] self.new (WithRoom self.old.cache.index (past_of self.old.steps) (DeleteAs self.old.cache.index name.now hour)) result }
         ensures goes_on { GoesOn D.tells D.meaning self.old self.new }
-        ensures cause { result ≡ Err StoreFault.DiskFailed → Rose (faults_of D.meaning self.old) (faults_of D.meaning self.new) }
+        ensures cause { result ≡ Err StoreFault.DiskFailed → Rose (book_faults D.meaning self.old) (book_faults D.meaning self.new) }
     {
         self.book.delete(alloc, name, hour)
     }
@@ -213,7 +213,7 @@ impl<D: Disk, K: Opening> Tied<D, K> {
         space: &Namespace,
         hash: IoHash,
     ) -> Result<Opened, StoreFault>
-        ensures gives { (result ≡ Err StoreFault.NoMemory) ⊎ (whole result ≡ unless_broken self.old.steps (serve self.old.cache space.now hash)) }
+        ensures gives { (result ≡ Err StoreFault.NoMemory) ⊎ (opened_bytes result ≡ unless_broken self.old.steps (serve self.old.cache space.now hash)) }
         ensures same { self.new ≡ self.old }
     {
         self.book.open_blob(alloc, space, hash)

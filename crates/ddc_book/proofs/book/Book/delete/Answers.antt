@@ -3,8 +3,8 @@ use Rattle.ddc_names.specs.declared.reference.RefName.{RefName}
 use Rattle.ddc_model.specs.declared.entry.Entry.TheVariants.{Delete}
 use Rattle.ddc_model.specs.declared.fault.StoreFault.TheVariants.{UnknownSpace, NotFound}
 use Rattle.ddc_model.specs.Reads.{DeleteAs}
-use Rattle.ddc_book.specs.Calls.{Gives}
-use Rattle.ddc_book.specs.Making.{IsFit}
+use Rattle.ddc_book.specs.Calls.{CommandGives}
+use Rattle.ddc_book.specs.inside.Making.{IsFit}
 use Rattle.ddc_book.proofs.Giving.{refuses, gives, InRoom}
 use Rattle.ddc_book.proofs.Deleting.{delete_unknown, delete_absent, delete_makes}
 use Rattle.ddc_book.proofs.Fitting.{delete_fit}
@@ -32,4 +32,4 @@ returns-clause-gives g c =
     let s = c.args.self.now.cache.index in
     gives c.args.self.now c.make.new.self [] (Delete c.args.name.now c.hour_of.result) tt (DeleteAs s c.args.name.now c.args.hour)
     (delete_makes s c.args.name.now c.args.hour (sym c.has_space.ensures ∙ c.if-not-has_space.false) (λ one. c.if-added_refs-eq1.false (c.added_refs.ensures ∙ one)) c.hour_of.result c.hour_of.ensures)
-    [] refl c.make.result (subst (λ (n : RefName). Gives c.args.self.now [] c.make.new.self (InRoom c.args.self.now (Delete n c.hour_of.result) tt) c.make.result) c.in-Ok.ensures c.make.ensures.gives)
+    [] refl c.make.result (subst (λ (n : RefName). CommandGives c.args.self.now [] c.make.new.self (InRoom c.args.self.now (Delete n c.hour_of.result) tt) c.make.result) c.in-Ok.ensures c.make.ensures.gives)

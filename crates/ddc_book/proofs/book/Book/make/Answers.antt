@@ -1,5 +1,5 @@
 use Rattle.std.proofs.Common.{sym}
-use Rattle.ddc_book.specs.Calls.{bytes_or_none}
+use Rattle.ddc_opening.specs.Tables.{bytes_or_none}
 use Rattle.ddc_book.proofs.Giving.{room_refused, room_failed}
 use Rattle.ddc_book.proofs.book.Book.make.Goals as goal
 

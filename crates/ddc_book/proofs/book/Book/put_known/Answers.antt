@@ -7,8 +7,9 @@ use Rattle.ddc_model.specs.Content.{content_hash}
 use Rattle.ddc_model.specs.Counts.{fresh_of}
 use Rattle.ddc_model.specs.Commands.{hour_of, needs_none, PutAs}
 use Rattle.ddc_book.specs.View.{BookView}
-use Rattle.ddc_book.specs.Calls.{Gives}
-use Rattle.ddc_book.specs.Making.{full_by, Brings, IsFit}
+use Rattle.ddc_book.specs.Calls.{CommandGives}
+use Rattle.ddc_opening.specs.Tables.{Brings}
+use Rattle.ddc_book.specs.inside.Making.{full_by, IsFit}
 use Rattle.ddc_book.proofs.Giving.{refuses, gives, InRoom}
 use Rattle.ddc_book.proofs.Absent.{mapped}
 use Rattle.ddc_book.proofs.Putting.{fresh_known, put_is_full, known_put, known_alike}
@@ -55,4 +56,4 @@ returns-clause-gives g c =
     c.in-Ok.missing c.hash_of-root.result c.hash_of-root.ensures.hash c.in-Ok.ensures.needs entry is in
     gives c.args.self.now c.make.new.self [] entry c.in-Ok.missing (PutAs s name object c.args.hour) makes
     object.bytes (known_alike c.args.self.now.cache [] object.bytes name c.hash_of-root.result _ _ entry is) c.make.result
-    (subst (λ (b : BookView g.row.D.Denot). Gives b [] c.make.new.self (InRoom b entry c.in-Ok.missing) c.make.result) same c.make.ensures.gives)
+    (subst (λ (b : BookView g.row.D.Denot). CommandGives b [] c.make.new.self (InRoom b entry c.in-Ok.missing) c.make.result) same c.make.ensures.gives)

@@ -6,8 +6,9 @@ use Rattle.ddc_model.specs.Content.{content_hash}
 use Rattle.ddc_model.specs.Counts.{fresh_of}
 use Rattle.ddc_model.specs.Commands.{changed, hour_of, needs_none, PutAs}
 use Rattle.ddc_book.specs.View.{BookView}
-use Rattle.ddc_book.specs.Calls.{Gives}
-use Rattle.ddc_book.specs.Making.{full_by, Brings, IsFit}
+use Rattle.ddc_book.specs.Calls.{CommandGives}
+use Rattle.ddc_opening.specs.Tables.{Brings}
+use Rattle.ddc_book.specs.inside.Making.{full_by, IsFit}
 use Rattle.ddc_book.proofs.Giving.{refuses, gives, InRoom}
 use Rattle.ddc_book.proofs.Uploads.{not_there}
 use Rattle.ddc_book.proofs.Putting.{fresh_new, put_is_full, new_put}
@@ -56,4 +57,4 @@ returns-clause-gives g c =
     c.in-Ok-missing_with.missing c.hash_of-root.result c.hash_of-root.ensures.hash c.links.result.now c.links.ensures.links c.in-Ok-missing_with.ensures.needs entry is in
     gives c.args.self.now c.make.new.self c.into_whole.result entry c.in-Ok-missing_with.missing (PutAs s name object c.args.hour) makes
     object.bytes (ap (λ (l : List ℕ). changed c.args.self.now.cache l (Some entry)) c.into_whole.ensures) c.make.result
-    (subst (λ (b : BookView g.row.D.Denot). Gives b c.into_whole.result c.make.new.self (InRoom b entry c.in-Ok-missing_with.missing) c.make.result) same c.make.ensures.gives)
+    (subst (λ (b : BookView g.row.D.Denot). CommandGives b c.into_whole.result c.make.new.self (InRoom b entry c.in-Ok-missing_with.missing) c.make.result) same c.make.ensures.gives)

@@ -1,7 +1,7 @@
 use Rattle.std.proofs.Common.{ap, sym, ◌∙◌, [], None, ℕ, refl}
 use Rattle.ddc_model.specs.declared.entry.Entry.TheVariants.{Space}
 use Rattle.ddc_model.specs.Commands.{SpaceAs}
-use Rattle.ddc_book.specs.Making.{full_by}
+use Rattle.ddc_book.specs.inside.Making.{full_by}
 use Rattle.ddc_book.proofs.Giving.{refuses, gives, made_where, refused_where}
 use Rattle.ddc_book.proofs.Fitting.{space_fit}
 use Rattle.ddc_book.proofs.book.Book.set_space.Goals as goal

@@ -1,0 +1,5 @@
+pub mod Opening
+pub mod Tables
+pub mod Loading
+pub mod Laws
+pub mod inside
