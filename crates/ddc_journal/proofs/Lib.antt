@@ -7,3 +7,4 @@ mod Reading
 mod Once
 mod PairLent
 mod Pairing
+mod PairOnce

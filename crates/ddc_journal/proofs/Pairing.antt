@@ -23,16 +23,16 @@ pub taken_is : (s : Bool) (a b : List ℕ) → s ≡ takes_second a b → taken 
 taken_is true a b e = ap (λ (s : Bool). if s then b else a) (sym e)
 taken_is false a b e = ap (λ (s : Bool). if s then b else a) (sym e)
 
-greater : (a b : List ℕ) → rank a < rank b → true ≡ takes_second a b
+pub greater : (a b : List ℕ) → rank a < rank b → true ≡ takes_second a b
 greater a b lt = sym (lt-ltb (rank a) (rank b) lt)
 
-not_greater : (a b : List ℕ) → rank b ≤ rank a → false ≡ takes_second a b
+pub not_greater : (a b : List ℕ) → rank b ≤ rank a → false ≡ takes_second a b
 not_greater a b le = sym (le-ltb (rank a) (rank b) le)
 
-is_greater : (a b : List ℕ) → true ≡ takes_second a b → rank a < rank b
+pub is_greater : (a b : List ℕ) → true ≡ takes_second a b → rank a < rank b
 is_greater a b e = ltb-true (rank a) (rank b) (sym e)
 
-is_not_greater : (a b : List ℕ) → false ≡ takes_second a b → rank b ≤ rank a
+pub is_not_greater : (a b : List ℕ) → false ≡ takes_second a b → rank b ≤ rank a
 is_not_greater a b e = ltb-false (rank a) (rank b) (sym e)
 
 takes_pair : (s : Bool) (version generation : ℕ) (bodies : List (List ℕ)) (a b : List ℕ) → s ≡ takes_second a b → IsJournal version generation bodies (file_of s a b) → IsPairOf version bodies a b

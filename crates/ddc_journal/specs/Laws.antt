@@ -1,10 +1,11 @@
 -- What holds of every file: it is at most one journal, or has one fault.
-use Rattle.std.specs.Prelude.{◌≡◌, ◌≢◌, ◌<◌, ◌^◌, ℕ, List}
+use Rattle.std.specs.Prelude.{◌≡◌, ◌≢◌, ◌<◌, ◌≤◌, ◌^◌, ℕ, List}
 use Rattle.ddc_journal.specs.Journal.{IsJournal, Loads}
 use Rattle.ddc_journal.specs.Faults.{FaultOf, FileFault, IsKnown}
+use Rattle.ddc_journal.specs.Pairs.{IsPairOf, NoneMade, PairFault}
 use Rattle.ddc_journal.specs.declared.kind.FileKind.{FileKind}
 use Rattle.ddc_journal.specs.declared.fault.JournalFault.{JournalFault}
-use Rattle.ddc_journal.specs.declared.fault.JournalFault.TheVariants.{NoMemory}
+use Rattle.ddc_journal.specs.declared.fault.JournalFault.TheVariants.{NotMade, NoMemory}
 
 -- a file is a journal of one version, one generation and one list of bodies
 abbrev pub OneJournal : Type 0
@@ -30,3 +31,22 @@ LoadsOrFails = (file : List ℕ) (generation : ℕ) (bodies : List (List ℕ)) (
 
 abbrev pub OneFileFault : Type 0
 OneFileFault = (file : List ℕ) (fault other : JournalFault) → fault ≢ NoMemory → other ≢ NoMemory → FaultOf file fault → FaultOf file other → fault ≡ other
+
+-- ---- the same of a pair
+
+-- two files are a pair of one version and one list of bodies
+abbrev pub OnePair : Type 0
+OnePair = (first second : List ℕ) (version other : ℕ) (bodies others : List (List ℕ)) → version < 2 ^ 32 → other < 2 ^ 32 → IsPairOf version bodies first second → IsPairOf other others first second → (version ≡ other) × (bodies ≡ others)
+
+-- a pair of a known version has no fault of content
+abbrev pub PairOrFault : Type 0
+PairOrFault = (newest : ℕ) (first second : List ℕ) (version : ℕ) (bodies : List (List ℕ)) (fault : JournalFault) → newest < 2 ^ 32 → 1 ≤ version → version ≤ newest
+    → IsPairOf version bodies first second → fault ≢ NoMemory → PairFault newest first second fault → ⊥
+
+-- two files have one fault
+abbrev pub OnePairFault : Type 0
+OnePairFault = (newest : ℕ) (first second : List ℕ) (fault other : JournalFault) → fault ≢ NoMemory → other ≢ NoMemory → PairFault newest first second fault → PairFault newest first second other → fault ≡ other
+
+-- they aren't made exactly where neither file's gate is open
+abbrev pub NotMadeIsNone : Type 0
+NotMadeIsNone = (newest : ℕ) (first second : List ℕ) → (PairFault newest first second NotMade → NoneMade first second) × (NoneMade first second → PairFault newest first second NotMade)
