@@ -14,12 +14,15 @@ use Rattle.ddc_book.specs.Loading.{AsBefore, Creates, IsLoaded, IsCreated}
 use Rattle.ddc_book.specs.View.{BookView, line_of}
 use Rattle.ddc_book.specs.declared.fault.OpenFault.{OpenFault}
 use Rattle.ddc_book.specs.declared.fault.OpenFault.TheVariants.{NotMade, Corrupt, BadVersion, Unsound, DiskFailed, NoMemory}
-use Rattle.ddc_command.specs.declared.end.Ended.TheVariants.{Unopened, Uncreated}
-use Rattle.ddc_command.specs.Words.{init, form_of}
-use Rattle.ddc_command.specs.Top.{IsInit, IsEmptyUnmade, FailsToOpen, Finds, is_unmade}
-use Rattle.ddc_command.proofs.Writing.{rose_later}
+use Rattle.ddc_service.specs.Effects.{Effect, Bytes}
+use Rattle.ddc_service.proofs.Writing.{rose_later}
+use Rattle.ddc_command.specs.declared.command.Command.TheVariants.{Init}
+use Rattle.ddc_command.specs.declared.end.CommandEnd.TheVariants.{Unopened, Uncreated}
+use Rattle.ddc_command.specs.Words.{command_of}
+use Rattle.ddc_command.specs.Ends.{scene, IsEmptyUnmade}
+use Rattle.ddc_command.specs.inside.Parts.{FailsToOpen, OpensOrMakes, is_unmade, untouched}
 use Rattle.ddc_command.proofs.Statuses.{open_not_1}
-use Rattle.ddc_command.proofs.Unopened.{unopens, some_form}
+use Rattle.ddc_command.proofs.Unopened.{unopens, some_command}
 
 -- ---- what a file says that holds no store
 
@@ -51,7 +54,7 @@ module _ {D : Type 0} (tells : Bool) (meaning : D → Meaning) (old : Devices D)
   abbrev Left : Cache → Images → Type 0
   Left cache = λ im. Opens standard im cache ⊎ IsEmptyUnmade cache im
 
-  pub finds_loaded : (book : BookView D) → IsLoaded meaning old standard book → Finds tells meaning old book
+  pub finds_loaded : (book : BookView D) → IsLoaded meaning old standard book → OpensOrMakes tells meaning old book
   finds_loaded book loaded = record {
     held = inl (loaded.held, loaded.whole);
     limits_are = loaded.limits_are;
@@ -65,26 +68,11 @@ module _ {D : Type 0} (tells : Bool) (meaning : D → Meaning) (old : Devices D)
       → ((fault ≡ DiskFailed) × Rose (devices_faults meaning old) (devices_faults meaning new)) ⊎ IfSome (meaning old.first).held (λ file. OpenFaultOf standard file fault)
       → (fault ≡ DiskFailed → Rose (devices_faults meaning old) (devices_faults meaning new)) → FailsToOpen tells meaning old new (Unopened fault)
   fails_unopened new fault off back is cause = record {
-    ends = λ written writes space ttl pin words hour input reads reads_now form. (
-      some_form (form_of words) (init space ttl pin) form,
-      (refl, refl),
+    ends = λ bytes faults space ttl pin words hour source still form. (
+      some_command (command_of words) (Init space ttl pin) form,
+      (still, (refl, refl)),
       back,
-      unopens
-          (record {
-            tells = tells;
-            meaning = meaning;
-            old = old;
-            new = new;
-            hour = hour;
-            input = input;
-            left = input;
-            from = written;
-            to = written;
-            reads_before = reads;
-            reads_now = reads_now;
-            writes_before = writes;
-            writes_now = writes;
-          }) (form_of words) fault is cause (λ e. absurd (not_unmade fault off e)),
+      unopens (scene tells meaning old new hour source (untouched bytes faults)) (command_of words) fault is cause (λ e. absurd (not_unmade fault off e)),
     );
     not_usage = open_not_1 fault;
   }
@@ -103,7 +91,7 @@ module _ {D : Type 0} (tells : Bool) (meaning : D → Meaning) (old : Devices D)
     abbrev Making : Timeline Images → Images → Type 0
     Making line = λ im. IsImage line im ⊎ (is_made im.first ≡ false) ⊎ Opens standard im (empty_cache standard)
 
-    pub finds_created : (book : BookView D) → ((d : D) → IsTrue tells → IsSome (meaning d).held) → IsCreated meaning mid standard book → Finds tells meaning old book
+    pub finds_created : (book : BookView D) → ((d : D) → IsTrue tells → IsSome (meaning d).held) → IsCreated meaning mid standard book → OpensOrMakes tells meaning old book
     finds_created book told created = record {
       held = inr (unmade, created.cache);
       limits_are = ap (λ c. c.index.limits) created.cache;
@@ -136,12 +124,17 @@ module _ {D : Type 0} (tells : Bool) (meaning : D → Meaning) (old : Devices D)
     pub fails_uncreated : (new : Devices D) (why : OpenFault) → Creates meaning mid standard new
         → ((why ≡ DiskFailed) × Rose (devices_faults meaning mid) (devices_faults meaning new)) ⊎ (why ≡ NoMemory) → FailsToOpen tells meaning old new (Uncreated why)
     fails_uncreated new why creates cause = record {
-      ends = λ written writes space ttl pin words hour input reads reads_now form. (
-        subst IsInit (sym form) tt,
-        (refl, refl),
-        unmade,
-        creates_from new creates,
-        ⊎_elim (λ failed. inl (failed.0, rose_later (devices_faults meaning old) (devices_faults meaning mid) (devices_faults meaning new) back.later failed.1)) (λ memory. inr memory) cause,
+      ends = λ bytes faults space ttl pin words hour source still form. (
+        space,
+        ttl,
+        pin,
+        form,
+        (
+          (still, (refl, refl)),
+          unmade,
+          creates_from new creates,
+          ⊎_elim (λ failed. inl (failed.0, rose_later (devices_faults meaning old) (devices_faults meaning mid) (devices_faults meaning new) back.later failed.1)) (λ memory. inr memory) cause,
+        ),
       );
       not_usage = open_not_1 why;
     }
