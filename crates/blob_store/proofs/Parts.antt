@@ -2,12 +2,18 @@
 use Rattle.std.specs.Prelude.{◌≡◌, ℕ, ◌+◌, ◌<◌, List, ◌++◌}
 use Rattle.std.proofs.Common.{sym, ap, subst, ◌∙◌, arith}
 use Rattle.blob_store.specs.declared.area.Area.{Area}
+use Rattle.blob_store.specs.declared.area.Area.TheVariants.{Empty, Parted'}
 use Rattle.blob_store.specs.declared.area.PartedArea.{PartedArea}
-use Rattle.blob_store.specs.inside.Areas.{extents_in, own, count_parts, AreSpanned}
+use Rattle.blob_store.specs.inside.Areas.{extents_in, listed_held, AreSpanned}
 use Rattle.blob_store.specs.inside.Spans.{span_of}
 
+-- how many parts an area has
+abbrev pub count_parts : Area → ℕ
+count_parts Empty = 0
+count_parts (Parted' p held span left right) = count_parts left + count_parts right + 1
+
 abbrev pub parts_in : PartedArea → List (ℕ × ℕ)
-parts_in parted = extents_in parted.left ++ (own parted.held ++ extents_in parted.right)
+parts_in parted = extents_in parted.left ++ (listed_held parted.held ++ extents_in parted.right)
 
 abbrev pub ArePartsSpanned : PartedArea → Type 0
 ArePartsSpanned parted = (parted.span ≡ span_of (parts_in parted)) × AreSpanned parted.left × AreSpanned parted.right

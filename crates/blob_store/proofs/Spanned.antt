@@ -5,7 +5,7 @@ use Rattle.std.proofs.lemmas.Bool.{lt-ltb, le-leb, lt-leb}
 use Rattle.ddc_model.specs.declared.rows.Extent.{Extent}
 use Rattle.blob_store.specs.declared.span.Span.{Span}
 use Rattle.blob_store.specs.inside.Runs.{AreInOrder, next_after, first_gap, end_of}
-use Rattle.blob_store.specs.inside.Spans.{extent_span, both_spans, joined, span_from, span_of, Follows}
+use Rattle.blob_store.specs.inside.Spans.{extent_span, both_spans, spans_joined, span_from, span_of, SpanFollows}
 use Rattle.blob_store.proofs.Runs.{low_end, in_order_back, some_is_not_none}
 
 same_span : (a b : Span) → Some a ≡ Some b → a ≡ b
@@ -17,18 +17,18 @@ span_with first last gap = record { first = first; last = last; gap = gap }
 widest : (a b c m n : ℕ) → max (max (max (max a m) b) n) c ≡ max (max a m) (max (max b n) c)
 widest a b c m n = omega arith
 
-joined_assoc : (a b c : Option Span) → joined (joined a b) c ≡ joined a (joined b c)
+joined_assoc : (a b c : Option Span) → spans_joined (spans_joined a b) c ≡ spans_joined a (spans_joined b c)
 unfolding span_with
 joined_assoc None b c = refl
 joined_assoc (Some a) None c = refl
 joined_assoc (Some a) (Some b) None = refl
 joined_assoc (Some a) (Some b) (Some c) = ap (λ (g : ℕ). Some (span_with a.first c.last g)) (widest a.gap b.gap c.gap (b.first - a.last) (c.first - b.last))
 
-pub span_of_append : (xs ys : List (ℕ × ℕ)) → span_of (xs ++ ys) ≡ joined (span_of xs) (span_of ys)
+pub span_of_append : (xs ys : List (ℕ × ℕ)) → span_of (xs ++ ys) ≡ spans_joined (span_of xs) (span_of ys)
 span_of_append [] ys = refl
 span_of_append (e ∷ []) [] = refl
 span_of_append (e ∷ []) (y ∷ ys) = refl
-span_of_append (e ∷ f ∷ es) ys = ap (joined (Some (extent_span e.0 e.1))) (span_of_append (f ∷ es) ys) ∙ sym (joined_assoc (Some (extent_span e.0 e.1)) (span_of (f ∷ es)) (span_of ys))
+span_of_append (e ∷ f ∷ es) ys = ap (spans_joined (Some (extent_span e.0 e.1))) (span_of_append (f ∷ es) ys) ∙ sym (joined_assoc (Some (extent_span e.0 e.1)) (span_of (f ∷ es)) (span_of ys))
 
 pub span_first : (e : ℕ × ℕ) (es : List (ℕ × ℕ)) → (span_from e es).first ≡ e.0
 span_first e [] = refl
@@ -39,7 +39,7 @@ span_last from e [] = refl
 span_last from e (f ∷ es) = span_last (e.0 + e.1) f es
 
 -- parts of a list in order follow one another
-pub parts_follow : (low high : ℕ) (xs ys : List (ℕ × ℕ)) → AreInOrder low high (xs ++ ys) → Follows (span_of xs) (span_of ys)
+pub parts_follow : (low high : ℕ) (xs ys : List (ℕ × ℕ)) → AreInOrder low high (xs ++ ys) → SpanFollows (span_of xs) (span_of ys)
 parts_follow low high [] ys o = tt
 parts_follow low high (e ∷ es) [] o = tt
 parts_follow low high (e ∷ es) (y ∷ ys) o =

@@ -18,7 +18,7 @@ abbrev pub bytes_from : List ℕ → ℕ → ℕ → List ℕ
 bytes_from file at count = map (slice_index file) (range_with_len at count)
 
 -- the file has these bytes from a place on, and does not end before them
-pub record HasBytes (file : List ℕ) (at : ℕ) (bytes : List ℕ) : Type 0 where
+pub record HasBlobBytes (file : List ℕ) (at : ℕ) (bytes : List ℕ) : Type 0 where
   pub reaches : at + length bytes ≤ length file
   pub same : bytes_from file at (length bytes) ≡ bytes
 

@@ -9,7 +9,7 @@ use Rattle.std.proofs.lemmas.Grind.{same_number_lists}
 use Rattle.ddc_disk.specs.Disk.{Torn, overwritten}
 use Rattle.ddc_model.specs.declared.rows.Extent.{Extent}
 use Rattle.blob_store.specs.Claims.{HasUnit, Apart}
-use Rattle.blob_store.specs.Bytes.{first_byte, LieIn, bytes_from, HasBytes, HasPlace, ChangesOnly}
+use Rattle.blob_store.specs.Bytes.{first_byte, LieIn, bytes_from, HasBlobBytes, HasPlace, ChangesOnly}
 
 -- a list that has a file's bytes at each index
 pub bytes_by_index : (file xs : List ℕ) (at : ℕ) → ((k : ℕ) → k < length xs → slice_index xs k ≡ slice_index file (at + k)) → xs ≡ bytes_from file at (length xs)
@@ -57,7 +57,7 @@ torn_changes_only extent n before after lie torn = record {
 }
 
 -- a write leaves its bytes
-pub written_has : (file : List ℕ) (at : ℕ) (bytes : List ℕ) → HasBytes (overwritten file at bytes) at bytes
+pub written_has : (file : List ℕ) (at : ℕ) (bytes : List ℕ) → HasBlobBytes (overwritten file at bytes) at bytes
 written_has file at bytes =
     let front = take at file ++ replicate {A = ℕ} (at - length file) 0 in
     let tail = drop (at + length bytes) file in
@@ -71,7 +71,7 @@ written_has file at bytes =
     }
 
 -- bytes outside an extent are kept where only the extent changes
-pub kept_outside : (extent : Extent) (before after : List ℕ) (at : ℕ) (bytes : List ℕ) → ChangesOnly extent before after → HasBytes before at bytes → ((place : ℕ) → at ≤ place → place < at + length bytes → ¬ HasPlace extent place) → HasBytes after at bytes
+pub kept_outside : (extent : Extent) (before after : List ℕ) (at : ℕ) (bytes : List ℕ) → ChangesOnly extent before after → HasBlobBytes before at bytes → ((place : ℕ) → at ≤ place → place < at + length bytes → ¬ HasPlace extent place) → HasBlobBytes after at bytes
 kept_outside extent before after at bytes changes has apart = record {
   reaches = omega (arith, has.reaches, changes.no_shorter);
   same = sym (bytes_by_index after bytes at (λ k l.

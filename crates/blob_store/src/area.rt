@@ -3,7 +3,7 @@
 ghost use Rattle.std.specs.Prelude.{◌≡◌, ◌+◌, ◌-◌, ◌/◌, ◌^◌, ◌<◌, ◌≤◌, ◌++◌, [], ◌∷◌, Some, OnOk, OnErr, IfOk};
 ghost use Rattle.std.specs.Ordering.{nat_cmp};
 ghost use Rattle.std.specs.FinMap.{find, put};
-ghost use Rattle.blob_store.specs.inside.Areas.{extents_in, own, middle, IsPlaced, AreSpanned};
+ghost use Rattle.blob_store.specs.inside.Areas.{extents_in, listed_held, middle_unit, IsPlaced, AreSpanned};
 ghost use Rattle.blob_store.specs.inside.Runs.{AreInOrder, MissesAll, LiesWithin, without, next_after, first_gap, end_of};
 ghost use Rattle.blob_store.specs.inside.Spans.{span_of};
 
@@ -34,7 +34,7 @@ pub(crate) struct PartedArea {
 // The middle unit of a range.
 fn middle_of(low: u64, high: u64) -> u64
     requires { low ≤ high }
-    ensures { result ≡ middle low high }
+    ensures { result ≡ middle_unit low high }
 {
     low + (high - low) / 2
 }
@@ -43,8 +43,8 @@ fn middle_of(low: u64, high: u64) -> u64
 fn span_of_parts(left: &Area, held: Option<Extent>, right: &Area) -> Option<Span>
     requires left { AreSpanned left.now }
     requires right { AreSpanned right.now }
-    requires ordered { AreInOrder 0 (2 ^ 51) (extents_in left.now ++ (own held ++ extents_in right.now)) }
-    ensures { result ≡ span_of (extents_in left.now ++ (own held ++ extents_in right.now)) }
+    requires ordered { AreInOrder 0 (2 ^ 51) (extents_in left.now ++ (listed_held held ++ extents_in right.now)) }
+    ensures { result ≡ span_of (extents_in left.now ++ (listed_held held ++ extents_in right.now)) }
 {
     join(left.span(), join(span_of_held(held), right.span()))
 }

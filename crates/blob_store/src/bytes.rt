@@ -3,7 +3,7 @@
 ghost use Rattle.std.specs.Prelude.{◌≡◌, ℕ, List, [], ◌+◌, ◌*◌, ◌<◌, length, IsOk, OnOk, IfSome};
 ghost use Rattle.ddc_names.specs.Causes.{HasCause};
 ghost use Rattle.ddc_disk.specs.Disk.{EachImage, EachSince, IsSure, MayTear, IsCalm, Continues, overwritten};
-ghost use Rattle.blob_store.specs.Bytes.{first_byte, LieIn, bytes_from, HasBytes, MayChange};
+ghost use Rattle.blob_store.specs.Bytes.{first_byte, LieIn, bytes_from, HasBlobBytes, MayChange};
 
 use ddc_disk::{Disk, write_sure};
 use ddc_model::Extent;
@@ -19,7 +19,7 @@ use io_hash::Whole;
 pub fn write_blob<D: Disk>(disk: &mut D, extent: Extent, whole: &Whole) -> Result<(), Failed>
     requires { LieIn extent 0 (length whole.now) }
     ensures durable { 0 < length whole.now → OnOk result (IfSome (D.meaning disk.old).held (λ file. IsSure (D.meaning disk.new) (overwritten file (first_byte extent) whole.now))) }
-    ensures bytes { 0 < length whole.now → OnOk result (IfSome (D.meaning disk.old).held (λ _. EachImage (D.meaning disk.new).line (λ image. HasBytes image (first_byte extent) whole.now))) }
+    ensures bytes { 0 < length whole.now → OnOk result (IfSome (D.meaning disk.old).held (λ _. EachImage (D.meaning disk.new).line (λ image. HasBlobBytes image (first_byte extent) whole.now))) }
     ensures empty { whole.now ≡ [] → IsOk result × (disk.new ≡ disk.old) }
     ensures torn { EachSince (D.meaning disk.old).line (D.meaning disk.new).line (MayTear (first_byte extent) (length whole.now) (D.meaning disk.old).line) }
     ensures in_extent { EachSince (D.meaning disk.old).line (D.meaning disk.new).line (MayChange extent (D.meaning disk.old).line) }

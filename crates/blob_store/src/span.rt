@@ -1,7 +1,7 @@
 //! What a search needs to know of some extents to pass over them.
 
 ghost use Rattle.std.specs.Prelude.{◌≡◌};
-ghost use Rattle.blob_store.specs.inside.Spans.{Follows, joined};
+ghost use Rattle.blob_store.specs.inside.Spans.{SpanFollows, spans_joined};
 
 // Of extents one after another: the first unit of the first, the unit after the last, and the most units that are free
 // between two of them.
@@ -14,8 +14,8 @@ pub(crate) struct Span {
 
 // The span of some extents and of others after them.
 pub(crate) fn join(front: Option<Span>, back: Option<Span>) -> Option<Span>
-    requires { Follows front back }
-    ensures { result ≡ joined front back }
+    requires { SpanFollows front back }
+    ensures { result ≡ spans_joined front back }
 {
     let Some(front) = front else {
         return back;

@@ -7,18 +7,18 @@ use Rattle.blob_store.specs.declared.area.Area.TheVariants.{Empty, Parted'}
 use Rattle.blob_store.specs.inside.Runs.{AreInOrder}
 use Rattle.blob_store.specs.inside.Spans.{span_of}
 
-abbrev pub own : Option Extent → List (ℕ × ℕ)
-own None = []
-own (Some extent) = (extent.start, extent.units) ∷ []
+abbrev pub listed_held : Option Extent → List (ℕ × ℕ)
+listed_held None = []
+listed_held (Some extent) = (extent.start, extent.units) ∷ []
 
 -- the extents of an area, in order
 abbrev pub extents_in : Area → List (ℕ × ℕ)
 extents_in Empty = []
-extents_in (Parted' p held span left right) = extents_in left ++ (own held ++ extents_in right)
+extents_in (Parted' p held span left right) = extents_in left ++ (listed_held held ++ extents_in right)
 
 -- the middle unit of a range
-abbrev pub middle : ℕ → ℕ → ℕ
-middle low high = low + (high - low) / 2
+abbrev pub middle_unit : ℕ → ℕ → ℕ
+middle_unit low high = low + (high - low) / 2
 
 abbrev pub HasMiddle : ℕ → Extent → Type 0
 HasMiddle mid extent = (extent.start ≤ mid) × (mid < extent.start + extent.units)
@@ -27,19 +27,14 @@ HasMiddle mid extent = (extent.start ≤ mid) × (mid < extent.start + extent.un
 abbrev pub IsPlaced : ℕ → ℕ → Area → Type 0
 IsPlaced low high Empty = Unit {0}
 IsPlaced low high (Parted' p held span left right) =
-    AreInOrder low high (extents_in left ++ (own held ++ extents_in right))
-    × IfSome held (HasMiddle (middle low high))
-    × AreInOrder low (middle low high) (extents_in left)
-    × AreInOrder (middle low high + 1) high (extents_in right)
-    × IsPlaced low (middle low high) left
-    × IsPlaced (middle low high + 1) high right
+    AreInOrder low high (extents_in left ++ (listed_held held ++ extents_in right))
+    × IfSome held (HasMiddle (middle_unit low high))
+    × AreInOrder low (middle_unit low high) (extents_in left)
+    × AreInOrder (middle_unit low high + 1) high (extents_in right)
+    × IsPlaced low (middle_unit low high) left
+    × IsPlaced (middle_unit low high + 1) high right
 
 -- each part has the span of its extents
 abbrev pub AreSpanned : Area → Type 0
 AreSpanned Empty = Unit {0}
-AreSpanned (Parted' p held span left right) = (span ≡ span_of (extents_in left ++ (own held ++ extents_in right))) × AreSpanned left × AreSpanned right
-
--- how many parts an area has
-abbrev pub count_parts : Area → ℕ
-count_parts Empty = 0
-count_parts (Parted' p held span left right) = count_parts left + count_parts right + 1
+AreSpanned (Parted' p held span left right) = (span ≡ span_of (extents_in left ++ (listed_held held ++ extents_in right))) × AreSpanned left × AreSpanned right

@@ -11,15 +11,15 @@ abbrev pub both_spans : Span → Span → Span
 both_spans front back = record { first = front.first; last = back.last; gap = max (max front.gap (back.first - front.last)) back.gap }
 
 -- the same where there may be none
-abbrev pub joined : Option Span → Option Span → Option Span
-joined None back = back
-joined (Some front) None = Some front
-joined (Some front) (Some back) = Some (both_spans front back)
+abbrev pub spans_joined : Option Span → Option Span → Option Span
+spans_joined None back = back
+spans_joined (Some front) None = Some front
+spans_joined (Some front) (Some back) = Some (both_spans front back)
 
 -- the second begins at or after the end of the first
-abbrev pub Follows : Option Span → Option Span → Type 0
-Follows (Some front) (Some back) = front.last ≤ back.first
-Follows front back = Unit {0}
+abbrev pub SpanFollows : Option Span → Option Span → Type 0
+SpanFollows (Some front) (Some back) = front.last ≤ back.first
+SpanFollows front back = Unit {0}
 
 -- the span of an extent and of others in order after it
 abbrev pub span_from : ℕ × ℕ → List (ℕ × ℕ) → Span

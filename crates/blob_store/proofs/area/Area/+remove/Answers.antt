@@ -1,7 +1,7 @@
 use Rattle.std.proofs.Common.{◌≡◌, ◌<◌, ◌≤◌, ◌-◌, ◌+◌, ◌++◌, ◌^◌, ℕ, Some, refl, sym, ap, subst, ◌∙◌, arith}
 use Rattle.std.specs.Ordering.{nat_cmp}
 use Rattle.std.specs.FinMap.{find}
-use Rattle.blob_store.specs.inside.Areas.{extents_in, own, middle, IsPlaced}
+use Rattle.blob_store.specs.inside.Areas.{extents_in, listed_held, middle_unit, IsPlaced}
 use Rattle.blob_store.specs.inside.Runs.{AreInOrder, without}
 use Rattle.blob_store.proofs.Runs.{in_order_weaker}
 use Rattle.blob_store.proofs.Edits.{found_within}
@@ -20,7 +20,7 @@ pub remove-requires : goal.remove-requires
 remove-requires t c =
     let v = c.deref_mut-parted.result.now in
     let o = changing c.args.low c.args.high c.args.self.now _ v _ c.in-Parted.is c.deref_mut-parted.ensures.value refl (λ p. p) (λ s. s) c.requires.placed c.requires.spanned in
-    let m : c.middle_of-middle.result ≡ middle c.args.low c.args.high = c.middle_of-middle.ensures in
+    let m : c.middle_of-middle.result ≡ middle_unit c.args.low c.args.high = c.middle_of-middle.ensures in
     let at : c.args.high - c.args.low ≡ t = c.decreases in
     let there : find nat_cmp c.args.extent.start (parts_in v) ≡ Some c.args.extent.units = sym (ap (find nat_cmp c.args.extent.start) o.full) ∙ c.requires.there in
     let ends = found_within c.args.extent.start c.args.extent.units c.args.low c.args.high (parts_in v) o.placed.0 there in
@@ -33,7 +33,7 @@ pub remove-requires-then-extent-middle : goal.remove-requires-then-extent-middle
 remove-requires-then-extent-middle t c =
     let v = c.deref_mut-parted.result.now in
     let o = changing c.args.low c.args.high c.args.self.now _ v _ c.in-Parted.is c.deref_mut-parted.ensures.value refl (λ p. p) (λ s. s) c.requires.placed c.requires.spanned in
-    let m : c.middle_of-middle.result ≡ middle c.args.low c.args.high = c.middle_of-middle.ensures in
+    let m : c.middle_of-middle.result ≡ middle_unit c.args.low c.args.high = c.middle_of-middle.ensures in
     let at : c.args.high - c.args.low ≡ t = c.decreases in
     let there : find nat_cmp c.args.extent.start (parts_in v) ≡ Some c.args.extent.units = sym (ap (find nat_cmp c.args.extent.start) o.full) ∙ c.requires.there in
     let ends = found_within c.args.extent.start c.args.extent.units c.args.low c.args.high (parts_in v) o.placed.0 there in
@@ -47,7 +47,7 @@ span_of_parts-requires-clause-ordered t c =
     let v = c.deref_mut-parted.result.now in
     let new = c.if-middle-extent.parted in
     let o = changing c.args.low c.args.high c.args.self.now _ v _ c.in-Parted.is c.deref_mut-parted.ensures.value refl (λ p. p) (λ s. s) c.requires.placed c.requires.spanned in
-    let m : c.middle_of-middle.result ≡ middle c.args.low c.args.high = c.middle_of-middle.ensures in
+    let m : c.middle_of-middle.result ≡ middle_unit c.args.low c.args.high = c.middle_of-middle.ensures in
     let there : find nat_cmp c.args.extent.start (parts_in v) ≡ Some c.args.extent.units = sym (ap (find nat_cmp c.args.extent.start) o.full) ∙ c.requires.there in
     let taken : TakenOut c.args.low c.args.high c.args.extent.start v new = elim c.if-middle-extent.branch [
       | then-middle-extent w ↦ taken_right c.args.low c.args.high c.args.extent.start c.args.extent.units v o.placed there (omega (arith, m, w.if-middle-extent.true)) new w.remove.new.self w.parted-is w.remove.ensures.gone
@@ -63,7 +63,7 @@ returns-in-Some-clause-gone t c =
     let v = c.deref_mut-parted.result.now in
     let new = c.if-middle-extent.parted in
     let o = changing c.args.low c.args.high c.args.self.now _ v _ c.in-Parted.is c.deref_mut-parted.ensures.value refl (λ p. p) (λ s. s) c.requires.placed c.requires.spanned in
-    let m : c.middle_of-middle.result ≡ middle c.args.low c.args.high = c.middle_of-middle.ensures in
+    let m : c.middle_of-middle.result ≡ middle_unit c.args.low c.args.high = c.middle_of-middle.ensures in
     let there : find nat_cmp c.args.extent.start (parts_in v) ≡ Some c.args.extent.units = sym (ap (find nat_cmp c.args.extent.start) o.full) ∙ c.requires.there in
     let taken : TakenOut c.args.low c.args.high c.args.extent.start v new = elim c.if-middle-extent.branch [
       | then-middle-extent w ↦ taken_right c.args.low c.args.high c.args.extent.start c.args.extent.units v o.placed there (omega (arith, m, w.if-middle-extent.true)) new w.remove.new.self w.parted-is w.remove.ensures.gone
@@ -79,7 +79,7 @@ returns-in-Some-clause-placed t c =
     let v = c.deref_mut-parted.result.now in
     let new = c.if-middle-extent.parted in
     let o = changing c.args.low c.args.high c.args.self.now _ v _ c.in-Parted.is c.deref_mut-parted.ensures.value refl (λ p. p) (λ s. s) c.requires.placed c.requires.spanned in
-    let m : c.middle_of-middle.result ≡ middle c.args.low c.args.high = c.middle_of-middle.ensures in
+    let m : c.middle_of-middle.result ≡ middle_unit c.args.low c.args.high = c.middle_of-middle.ensures in
     let there : find nat_cmp c.args.extent.start (parts_in v) ≡ Some c.args.extent.units = sym (ap (find nat_cmp c.args.extent.start) o.full) ∙ c.requires.there in
     let taken : TakenOut c.args.low c.args.high c.args.extent.start v new = elim c.if-middle-extent.branch [
       | then-middle-extent w ↦ taken_right c.args.low c.args.high c.args.extent.start c.args.extent.units v o.placed there (omega (arith, m, w.if-middle-extent.true)) new w.remove.new.self w.parted-is w.remove.ensures.gone
@@ -95,7 +95,7 @@ returns-in-None-clause-gone t c =
     let v = c.deref_mut-parted.result.now in
     let new = c.if-middle-extent.parted in
     let o = changing c.args.low c.args.high c.args.self.now _ v _ c.in-Parted.is c.deref_mut-parted.ensures.value refl (λ p. p) (λ s. s) c.requires.placed c.requires.spanned in
-    let m : c.middle_of-middle.result ≡ middle c.args.low c.args.high = c.middle_of-middle.ensures in
+    let m : c.middle_of-middle.result ≡ middle_unit c.args.low c.args.high = c.middle_of-middle.ensures in
     let there : find nat_cmp c.args.extent.start (parts_in v) ≡ Some c.args.extent.units = sym (ap (find nat_cmp c.args.extent.start) o.full) ∙ c.requires.there in
     let taken : TakenOut c.args.low c.args.high c.args.extent.start v new = elim c.if-middle-extent.branch [
       | then-middle-extent w ↦ taken_right c.args.low c.args.high c.args.extent.start c.args.extent.units v o.placed there (omega (arith, m, w.if-middle-extent.true)) new w.remove.new.self w.parted-is w.remove.ensures.gone
