@@ -11,7 +11,11 @@ magic = 68 ∷ 68 ∷ 67 ∷ 74 ∷ 76 ∷ 79 ∷ 71 ∷ 10 ∷ []
 abbrev pub front_size : ℕ
 front_size = 21
 
--- a body behind its gate: its length in four bytes and its bytes
+-- how many bytes stand in front of a body: its gate and its length
+abbrev pub item_head : ℕ
+item_head = 5
+
+-- a body after its gate: its length in four bytes and its bytes
 abbrev pub framed : List ℕ → List ℕ
 framed body = to_le_bytes w32 (length body) ++ body
 

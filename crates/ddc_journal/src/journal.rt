@@ -3,7 +3,7 @@
 ghost use Rattle.std.specs.Prelude.{◌≡◌, ◌++◌, ◌∷◌, ◌+◌, ◌<◌, ◌^◌, [], List, ℕ, length, OnOk, OnErr, IfErr};
 ghost use Rattle.ddc_names.specs.Causes.{HasCause};
 ghost use Rattle.ddc_disk.specs.Disk.{EachSince};
-ghost use Rattle.ddc_journal.specs.Journal.{framed, journal_bytes, IsEither, IsReady, LoadsEither, StandsAs};
+ghost use Rattle.ddc_journal.specs.Journal.{framed, item_head, journal_bytes, IsEither, IsReady, LoadsEither, StandsAs};
 ghost use Rattle.ddc_journal.specs.inside.Closing.{IsSureOf};
 ghost use Rattle.ddc_journal.specs.declared.fault.JournalFault.TheVariants.{DiskFailed};
 
@@ -60,6 +60,7 @@ impl Journal {
         ensures ready { OnOk result ((generation : ℕ) (bodies : List (List ℕ)) → IsReady (D.meaning disk.old) generation bodies self.old
             → IsReady (D.meaning disk.new) generation (bodies ++ item.now ∷ []) self.new) }
         ensures past { EachSince (D.meaning disk.old).line (D.meaning disk.new).line (λ _. Unit {0}) }
+        ensures moved { OnOk result (self.new ≡ self.old + item_head + length item.now) }
         ensures kept { OnErr result (self.new ≡ self.old) }
         ensures failed { IfErr result (λ fault. fault ≡ DiskFailed) }
         ensures cause { HasCause (D.meaning disk.old).faults (D.meaning disk.new).faults result }

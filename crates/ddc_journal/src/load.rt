@@ -64,7 +64,7 @@ pub(crate) fn scan_disk<D: Disk>(
 }
 
 impl Journal {
-    /// Opens the journal of a disk and gives the bodies behind open gates, in order. It begins with a
+    /// Opens the journal of a disk and gives the bodies after open gates, in order. It begins with a
     /// sync, and changes nothing.
     ///
     /// # Errors

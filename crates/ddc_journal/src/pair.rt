@@ -2,10 +2,11 @@
 //!
 //! Contracts see the two as devices of a store, which are lent one at a time.
 
-ghost use Rattle.std.specs.Prelude.{◌≡◌, ◌⊎◌, ◌++◌, ◌∷◌, [], if◌then◌else◌, ℕ, List, OnErr, OnOk, IfErr};
+ghost use Rattle.std.specs.Prelude.{◌≡◌, ◌⊎◌, ◌+◌, ◌++◌, ◌∷◌, [], if◌then◌else◌, ℕ, List, length, OnErr, OnOk, IfErr};
 ghost use Rattle.ddc_names.specs.Causes.{HasCause};
 ghost use Rattle.ddc_disk.specs.Disk.{EachSince};
 ghost use Rattle.ddc_disk.specs.Images.{devices_faults, devices_line};
+ghost use Rattle.ddc_journal.specs.Journal.{item_head};
 ghost use Rattle.ddc_journal.specs.Pairs.{IsPairOf, IsPairReady};
 ghost use Rattle.ddc_journal.specs.declared.fault.JournalFault.TheVariants.{DiskFailed};
 
@@ -69,7 +70,7 @@ impl Pair {
             → EachSince (devices_line D.meaning devices.old) (devices_line D.meaning devices.new) (λ im. IsPairOf self.old.version bodies im.first im.second ⊎ IsPairOf self.old.version (bodies ++ item.now ∷ []) im.first im.second) }
         ensures ready { OnOk result ((bodies : List (List ℕ)) → IsPairReady D.meaning devices.old self.old bodies
             → IsPairReady D.meaning devices.new self.new (bodies ++ item.now ∷ [])) }
-        ensures same { OnOk result (self.new ≡ record self.old { end = self.new.end }) }
+        ensures moved { OnOk result (self.new ≡ record self.old { end = self.old.end + item_head + length item.now }) }
         ensures kept { OnErr result (self.new ≡ self.old) }
         ensures past { EachSince (devices_line D.meaning devices.old) (devices_line D.meaning devices.new) (λ _. Unit {0}) }
         ensures blobs { devices.new.blobs ≡ devices.old.blobs }

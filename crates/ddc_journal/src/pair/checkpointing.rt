@@ -4,7 +4,7 @@ ghost use Rattle.std.specs.Prelude.{◌≡◌, ◌⊎◌, ◌++◌, ◌∷◌, �
 ghost use Rattle.ddc_names.specs.Causes.{Rose};
 ghost use Rattle.ddc_disk.specs.Disk.{EachSince};
 ghost use Rattle.ddc_disk.specs.Images.{devices_faults, devices_line};
-ghost use Rattle.ddc_journal.specs.Journal.{framed, items, AreSized};
+ghost use Rattle.ddc_journal.specs.Journal.{framed, items, journal_bytes, AreSized};
 ghost use Rattle.ddc_journal.specs.Pairs.{IsPairOf, IsPairReady};
 ghost use Rattle.ddc_journal.specs.declared.fault.JournalFault.TheVariants.{DiskFailed, NoMemory};
 
@@ -63,7 +63,7 @@ impl Pair {
         ensures any_moment { (olds : List (List ℕ)) → IsPairReady D.meaning devices.old self.old olds
             → EachSince (devices_line D.meaning devices.old) (devices_line D.meaning devices.new) (λ im. IsPairOf self.old.version olds im.first im.second ⊎ IsPairOf version bodies.now im.first im.second) }
         ensures ready { OnOk result ((olds : List (List ℕ)) → IsPairReady D.meaning devices.old self.old olds → self.old.generation < 2 ^ 64 - 1 → IsPairReady D.meaning devices.new self.new bodies.now) }
-        ensures turned { OnOk result (self.old.generation < 2 ^ 64 - 1 → self.new ≡ record { second = not self.old.second; version = version; generation = self.old.generation + 1; end = self.new.end }) }
+        ensures turned { OnOk result (self.old.generation < 2 ^ 64 - 1 → self.new ≡ record { second = not self.old.second; version = version; generation = self.old.generation + 1; end = length (journal_bytes version (self.old.generation + 1) bodies.now) }) }
         ensures last { self.old.generation ≡ 2 ^ 64 - 1 → (result ≡ Ok tt) × (self.new ≡ self.old) × (devices.new ≡ devices.old) }
         ensures kept { OnErr result (self.new ≡ self.old) }
         ensures no_memory { result ≡ Err NoMemory → devices.new ≡ devices.old }

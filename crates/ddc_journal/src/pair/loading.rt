@@ -27,7 +27,6 @@ pub fn load<D: Disk>(
     devices: &mut HeldDevices<D>,
     newest: u32,
 ) -> Result<(Pair, Rows<ByteList>), JournalFault>
-    requires { 1 ≤ newest }
     ensures loads { IfOk result (λ r. IfBoth D.meaning devices.old (λ a b. IsOpenPair a b r.0 r.1 × IsKnown (pair_kind newest r.0.second) r.0.version)) }
     ensures ready { IfOk result (λ r. IfBoth D.meaning devices.old (λ _ _. IsPairReady D.meaning devices.new r.0 r.1)) }
     ensures fault { IfErr result (λ fault. ((fault ≡ DiskFailed) × Rose (devices_faults D.meaning devices.old) (devices_faults D.meaning devices.new)) ⊎ IfBoth D.meaning devices.old (λ a b. PairFault newest a b fault)) }
