@@ -10,11 +10,12 @@ use std::mem;
 
 /// The most bytes that are printed whole, and how many of a longer text.
 const MOST_SHOWN: usize = 16_384;
+
 const LAST_SHOWN: usize = 128;
 
 // What a run reads and writes.
 #[derive(Drop)]
-struct Ends {
+struct Streams {
     source: MemSource,
     sink: MemSink,
     notes: MemSink,
@@ -33,11 +34,11 @@ fn source_of(alloc: Global, stage: &mut Stage) -> Result<MemSource, NoMemory> {
     ))
 }
 
-fn ends_of(alloc: Global, stage: &mut Stage) -> Result<Ends, NoMemory> {
+fn streams_of(alloc: Global, stage: &mut Stage) -> Result<Streams, NoMemory> {
     let source = source_of(alloc, stage)?;
     let puts = mem::replace(&mut stage.puts, Vec::new(alloc));
     let notes = mem::replace(&mut stage.notes, Vec::new(alloc));
-    Ok(Ends {
+    Ok(Streams {
         source,
         sink: MemSink::new(alloc, Rows::of_vec(puts)),
         notes: MemSink::new(alloc, Rows::of_vec(notes)),
@@ -45,16 +46,16 @@ fn ends_of(alloc: Global, stage: &mut Stage) -> Result<Ends, NoMemory> {
 }
 
 // Runs the command, and gives its status.
-fn run_words(alloc: Global, stage: &mut Stage, words: &[String], ends: &mut Ends) -> u8 {
+fn run_words(alloc: Global, stage: &mut Stage, words: &[String], streams: &mut Streams) -> u8 {
     let devices = mem::replace(&mut stage.devices, empty(alloc));
     let clock = FixedClock { hour: stage.hour };
     let (status, devices) = run_local(
         alloc,
         words,
         devices,
-        &mut ends.source,
-        &mut ends.sink,
-        &mut ends.notes,
+        &mut streams.source,
+        &mut streams.sink,
+        &mut streams.notes,
         &clock,
     );
     stage.devices = devices;
@@ -64,9 +65,14 @@ fn run_words(alloc: Global, stage: &mut Stage, words: &[String], ends: &mut Ends
 /// Runs a command on the input that was set. Prints its status, what it wrote and what it noted.
 pub fn run(alloc: Global, stage: &mut Stage, words: &str) -> Result<String, NoMemory> {
     let words = words_of(alloc, words)?;
-    let mut ends = ends_of(alloc, stage)?;
-    let status = run_words(alloc, stage, &words, &mut ends);
-    told(alloc, status, ends.sink.written(), ends.notes.written())
+    let mut streams = streams_of(alloc, stage)?;
+    let status = run_words(alloc, stage, &words, &mut streams);
+    told(
+        alloc,
+        status,
+        streams.sink.written(),
+        streams.notes.written(),
+    )
 }
 
 fn told(alloc: Global, status: u8, written: &[u8], noted: &[u8]) -> Result<String, NoMemory> {

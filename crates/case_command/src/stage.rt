@@ -55,36 +55,65 @@ fn device<'a>(devices: &'a mut Devices<MemDisk>, name: &str) -> &'a mut MemDisk 
 
 /// Sets what a line says, and whether it says that.
 pub fn set(alloc: Global, stage: &mut Stage, call: &str, rest: &str) -> Result<bool, NoMemory> {
-    match call {
-        "new" => stage.devices = empty(alloc),
-        "fails" => fails(alloc, &mut stage.devices, rest)?,
-        "write" => write(alloc, &mut stage.devices, rest)?,
-        "crash" => crash(alloc, &mut stage.devices, rest)?,
-        "reads" => stage.reads = numbers_of(alloc, rest)?,
-        "puts" => stage.puts = numbers_of(alloc, rest)?,
-        "notes" => stage.notes = numbers_of(alloc, rest)?,
-        "hour" => stage.hour = rest.parse::<u32>().unwrap_or(0),
-        "pieces" => stage.pieces = rest.parse::<u32>().unwrap_or(0),
-        _ => return lengthen(alloc, &mut stage.input, call, rest),
+    if change(alloc, &mut stage.devices, call, rest)?
+        || lengthen(alloc, &mut stage.input, call, rest)?
+    {
+        return Ok(true);
     }
+    match call {
+        "reads" => put_numbers(alloc, &mut stage.reads, rest),
+        "puts" => put_numbers(alloc, &mut stage.puts, rest),
+        "notes" => put_numbers(alloc, &mut stage.notes, rest),
+        _ => Ok(set_number(stage, call, rest)),
+    }
+}
+
+fn put_numbers(alloc: Global, numbers: &mut Vec<u64>, rest: &str) -> Result<bool, NoMemory> {
+    *numbers = numbers_of(alloc, rest)?;
     Ok(true)
 }
 
-// Changes the input as a line says, and whether it says that.
-fn lengthen(
+fn set_number(stage: &mut Stage, call: &str, rest: &str) -> bool {
+    let number = rest.parse::<u32>().unwrap_or(0);
+    match call {
+        "hour" => stage.hour = number,
+        "pieces" => stage.pieces = number,
+        _ => return false,
+    }
+    true
+}
+
+// Changes the devices as a line says, and whether it says that.
+fn change(
     alloc: Global,
-    input: &mut Vec<u8>,
+    devices: &mut Devices<MemDisk>,
     call: &str,
     rest: &str,
 ) -> Result<bool, NoMemory> {
     match call {
-        "ask" => push_request(alloc, input, rest, "", &[])?,
-        "put" => push_put(alloc, input, rest)?,
-        "repeat" => repeat(alloc, input, rest)?,
-        "cut" => input.truncate(rest.parse::<usize>().unwrap_or(0)),
-        _ => return Ok(false),
+        "new" => {
+            *devices = empty(alloc);
+            Ok(true)
+        }
+        "fails" => fails(alloc, devices, rest),
+        "write" => write(alloc, devices, rest),
+        "crash" => crash(devices, rest),
+        _ => Ok(false),
     }
-    Ok(true)
+}
+
+// Changes the input as a line says, and whether it says that.
+fn lengthen(alloc: Global, input: &mut Vec<u8>, call: &str, rest: &str) -> Result<bool, NoMemory> {
+    match call {
+        "ask" => push_request(alloc, input, rest, "", &[]),
+        "put" => push_put(alloc, input, rest),
+        "repeat" => repeat(alloc, input, rest),
+        "cut" => {
+            input.truncate(rest.parse::<usize>().unwrap_or(0));
+            Ok(true)
+        }
+        _ => Ok(false),
+    }
 }
 
 fn push_request(
@@ -93,14 +122,14 @@ fn push_request(
     line: &str,
     field: &str,
     body: &[u8],
-) -> Result<(), NoMemory> {
+) -> Result<bool, NoMemory> {
     let head = format!(in alloc; "{line} HTTP/1.1\r\n{field}\r\n")?;
     input.extend_from_slice(head.as_bytes())?;
     input.extend_from_slice(body)?;
-    Ok(())
+    Ok(true)
 }
 
-fn push_put(alloc: Global, input: &mut Vec<u8>, rest: &str) -> Result<(), NoMemory> {
+fn push_put(alloc: Global, input: &mut Vec<u8>, rest: &str) -> Result<bool, NoMemory> {
     let (target, digits) = parts_of(rest);
     let body = bytes_of(alloc, digits)?;
     let length = body.len();
@@ -109,40 +138,40 @@ fn push_put(alloc: Global, input: &mut Vec<u8>, rest: &str) -> Result<(), NoMemo
     push_request(alloc, input, line.as_str(), field.as_str(), &body)
 }
 
-fn repeat(alloc: Global, input: &mut Vec<u8>, rest: &str) -> Result<(), NoMemory> {
+fn repeat(alloc: Global, input: &mut Vec<u8>, rest: &str) -> Result<bool, NoMemory> {
     let count = rest.parse::<u16>().unwrap_or(0);
     let once = Vec::from_slice(alloc, input)?;
     input.clear();
     for _ in 0..count {
         input.extend_from_slice(&once)?;
     }
-    Ok(())
+    Ok(true)
 }
 
-fn fails(alloc: Global, devices: &mut Devices<MemDisk>, rest: &str) -> Result<(), NoMemory> {
+fn fails(alloc: Global, devices: &mut Devices<MemDisk>, rest: &str) -> Result<bool, NoMemory> {
     let (name, numbers) = parts_of(rest);
     let failing = numbers_of(alloc, numbers)?;
     *device(devices, name) = MemDisk::new(alloc, Rows::of_vec(failing));
-    Ok(())
+    Ok(true)
 }
 
-fn write(alloc: Global, devices: &mut Devices<MemDisk>, rest: &str) -> Result<(), NoMemory> {
+fn write(alloc: Global, devices: &mut Devices<MemDisk>, rest: &str) -> Result<bool, NoMemory> {
     let (name, rest) = parts_of(rest);
     let (at, digits) = parts_of(rest);
     let bytes = bytes_of(alloc, digits)?;
     match device(devices, name).write_at(at.parse::<u64>().unwrap_or(0), &bytes) {
-        Ok(()) => Ok(()),
+        Ok(()) => Ok(true),
         Err(_) => Err(NoMemory),
     }
 }
 
-fn crash(alloc: Global, devices: &mut Devices<MemDisk>, rest: &str) -> Result<(), NoMemory> {
+fn crash(devices: &mut Devices<MemDisk>, rest: &str) -> Result<bool, NoMemory> {
     let (name, rest) = parts_of(rest);
     let (calls, choice) = parts_of(rest);
     let disk = device(devices, name);
     let calls = calls.parse::<u64>().unwrap_or(0);
     *disk = disk.crashed(calls, choice.parse::<u64>().unwrap_or(0))?;
-    Ok(())
+    Ok(true)
 }
 
 /// What a device holds, in hexadecimal.

@@ -9,11 +9,12 @@ use Rattle.ddc_disk.specs.declared.devices.Devices.{Devices}
 use Rattle.ddc_journal.specs.Journal.{is_made}
 use Rattle.ddc_model.specs.Limits.{standard}
 use Rattle.ddc_model.specs.Sound.{Cache, empty_cache}
-use Rattle.ddc_book.specs.Opening.{Opens, OpenFaultOf}
-use Rattle.ddc_book.specs.Loading.{AsBefore, Creates, IsLoaded, IsCreated}
-use Rattle.ddc_book.specs.View.{BookView, line_of}
-use Rattle.ddc_book.specs.declared.fault.OpenFault.{OpenFault}
-use Rattle.ddc_book.specs.declared.fault.OpenFault.TheVariants.{NotMade, Corrupt, BadVersion, Unsound, DiskFailed, NoMemory}
+use Rattle.ddc_opening.specs.Opening.{OpensAs, OpenFaultOf}
+use Rattle.ddc_opening.specs.Loading.{AsBefore, Creates}
+use Rattle.ddc_book.specs.Loading.{IsLoaded, IsCreated}
+use Rattle.ddc_book.specs.View.{BookView, book_line}
+use Rattle.ddc_opening.specs.declared.fault.OpenFault.{OpenFault}
+use Rattle.ddc_opening.specs.declared.fault.OpenFault.TheVariants.{NotMade, Corrupt, BadVersion, Unsound, DiskFailed, NoMemory}
 use Rattle.ddc_service.specs.Effects.{Effect, Bytes}
 use Rattle.ddc_service.proofs.Writing.{rose_later}
 use Rattle.ddc_command.specs.declared.command.Command.TheVariants.{Init}
@@ -52,7 +53,7 @@ module _ {D : Type 0} (tells : Bool) (meaning : D → Meaning) (old : Devices D)
 
   -- what an open book may leave
   abbrev Left : Cache → Images → Type 0
-  Left cache = λ im. Opens standard im cache ⊎ IsEmptyUnmade cache im
+  Left cache = λ im. OpensAs standard im cache ⊎ IsEmptyUnmade cache im
 
   pub finds_loaded : (book : BookView D) → IsLoaded meaning old standard book → OpensOrMakes tells meaning old book
   finds_loaded book loaded = record {
@@ -60,7 +61,7 @@ module _ {D : Type 0} (tells : Bool) (meaning : D → Meaning) (old : Devices D)
     limits_are = loaded.limits_are;
     steps = loaded.steps;
     later = loaded.as_before.later;
-    any_moment = λ told starts. weaker before (line_of meaning book) (IsImage before) (Left book.cache) loaded.as_before.since starts;
+    any_moment = λ told starts. weaker before (book_line meaning book) (IsImage before) (Left book.cache) loaded.as_before.since starts;
   }
 
   -- the store can't be opened
@@ -89,7 +90,7 @@ module _ {D : Type 0} (tells : Bool) (meaning : D → Meaning) (old : Devices D)
     image_before im now = back.since.each between.moment im back.since.later now
 
     abbrev Making : Timeline Images → Images → Type 0
-    Making line = λ im. IsImage line im ⊎ (is_made im.first ≡ false) ⊎ Opens standard im (empty_cache standard)
+    Making line = λ im. IsImage line im ⊎ (is_made im.first ≡ false) ⊎ OpensAs standard im (empty_cache standard)
 
     pub finds_created : (book : BookView D) → ((d : D) → IsTrue tells → IsSome (meaning d).held) → IsCreated meaning mid standard book → OpensOrMakes tells meaning old book
     finds_created book told created = record {
@@ -98,14 +99,14 @@ module _ {D : Type 0} (tells : Bool) (meaning : D → Meaning) (old : Devices D)
       steps = created.steps;
       later = let a = back.later in let b = created.creates.later in omega arith;
       any_moment = λ tell starts.
-          let P : Option (List ℕ) → Type 0 = λ held. IfSome held (λ file. is_made file ≡ false → EachSince between (line_of meaning book) (Making between)) in
-          let making = at_unmade (meaning old.first).held (EachSince between (line_of meaning book) (Making between)) (told old.first tell) unmade (subst P back.first created.creates.each) in
-          let Q : Cache → Type 0 = λ c. EachSince between (line_of meaning book) (Left c) in
-          let R : Cache → Images → Type 0 = λ c im. Opens standard im c ⊎ IsEmptyUnmade c im in
+          let P : Option (List ℕ) → Type 0 = λ held. IfSome held (λ file. is_made file ≡ false → EachSince between (book_line meaning book) (Making between)) in
+          let making = at_unmade (meaning old.first).held (EachSince between (book_line meaning book) (Making between)) (told old.first tell) unmade (subst P back.first created.creates.each) in
+          let Q : Cache → Type 0 = λ c. EachSince between (book_line meaning book) (Left c) in
+          let R : Cache → Images → Type 0 = λ c im. OpensAs standard im c ⊎ IsEmptyUnmade c im in
           let first = weaker before between (IsImage before) (Left book.cache) back.since starts in
-          let last = weaker between (line_of meaning book) (Making between) (Left book.cache) making
-          (λ im. ⊎_elim (λ now. starts im (image_before im now)) (⊎_elim (λ none. inr (created.cache, none)) (λ opens. let S : Cache → Type 0 = λ c. Opens standard im c in inl (subst S (sym created.cache) opens)))) in
-          then_runs before between (line_of meaning book) (Left book.cache) (Left book.cache) first last (λ im left. left);
+          let last = weaker between (book_line meaning book) (Making between) (Left book.cache) making
+          (λ im. ⊎_elim (λ now. starts im (image_before im now)) (⊎_elim (λ none. inr (created.cache, none)) (λ opens. let S : Cache → Type 0 = λ c. OpensAs standard im c in inl (subst S (sym created.cache) opens)))) in
+          then_runs before between (book_line meaning book) (Left book.cache) (Left book.cache) first last (λ im left. left);
     }
 
     creates_from : (new : Devices D) → Creates meaning mid standard new → Creates meaning old standard new

@@ -19,9 +19,9 @@ use Rattle.ddc_model.specs.Limits.{standard}
 use Rattle.ddc_model.specs.Sound.{Cache}
 use Rattle.ddc_model.specs.Commands.{SpaceAs, changed}
 use Rattle.ddc_model.specs.History.{Past, broken_by, past_of, WithRoom}
-use Rattle.ddc_book.specs.Calls.{Gives, GoesOn, Becomes}
-use Rattle.ddc_book.specs.Opening.{Opens}
-use Rattle.ddc_book.specs.View.{BookView, limits_of, line_of, faults_of}
+use Rattle.ddc_book.specs.Calls.{CommandGives, GoesOn, Becomes}
+use Rattle.ddc_opening.specs.Opening.{OpensAs}
+use Rattle.ddc_book.specs.View.{BookView, limits_of, book_line, book_faults}
 use Rattle.ddc_service.specs.Effects.{Effect, Bytes, Rises, MeetsNoFault, IsUntouched}
 use Rattle.ddc_service.proofs.Writing.{rose_later}
 use Rattle.ddc_command.specs.declared.end.CommandEnd.TheVariants.{Unmade, Made, Untold}
@@ -49,11 +49,11 @@ module _ {D : Type 0} (tells : Bool) (meaning : D → Meaning) (old : Devices D)
   start = book.cache
 
   abbrev Starts : Type 0
-  Starts = IsTrue tells × EachImage (devices_line meaning old) (λ im. Opens standard im start ⊎ IsEmptyUnmade start im)
+  Starts = IsTrue tells × EachImage (devices_line meaning old) (λ im. OpensAs standard im start ⊎ IsEmptyUnmade start im)
 
   -- a crash now leaves the opened state, that after the entry, or no store
   abbrev Left : Option Entry → Images → Type 0
-  Left made = λ im. Opens standard im start ⊎ Opens standard im (changed start [] made) ⊎ IsEmptyUnmade start im
+  Left made = λ im. OpensAs standard im start ⊎ OpensAs standard im (changed start [] made) ⊎ IsEmptyUnmade start im
 
   unbroken : broken_by book.steps ≡ None
   unbroken = is_unbroken standard book.steps found.steps
@@ -64,12 +64,12 @@ module _ {D : Type 0} (tells : Bool) (meaning : D → Meaning) (old : Devices D)
       with_space start.index space ttl pin answer made found.limits_are (subst P (nothing_yet standard book.steps found.steps) h)
 
   -- up to the opened book
-  opening : (made : Option Entry) → Starts → EachSince (devices_line meaning old) (line_of meaning book) (Left made)
+  opening : (made : Option Entry) → Starts → EachSince (devices_line meaning old) (book_line meaning book) (Left made)
   opening made (told, starts) =
-      weaker (devices_line meaning old) (line_of meaning book) (λ im. Opens standard im start ⊎ IsEmptyUnmade start im) (Left made) (found.any_moment told starts) (λ im. ⊎_elim (λ opens. inl opens) (λ none. inr (inr none)))
+      weaker (devices_line meaning old) (book_line meaning book) (λ im. OpensAs standard im start ⊎ IsEmptyUnmade start im) (Left made) (found.any_moment told starts) (λ im. ⊎_elim (λ opens. inl opens) (λ none. inr (inr none)))
 
   -- there is no memory to tell of it, and nothing is made
-  pub lacks_memory : (bytes : Bytes) (count : ℕ) (new : Devices D) → new ≡ book.devices → (IsTrue tells → broken_by book.steps ≡ None → EachImage (devices_line meaning new) (λ im. Opens (limits_of book) im start))
+  pub lacks_memory : (bytes : Bytes) (count : ℕ) (new : Devices D) → new ≡ book.devices → (IsTrue tells → broken_by book.steps ≡ None → EachImage (devices_line meaning new) (λ im. OpensAs (limits_of book) im start))
       → EndsInit tells meaning old new (untouched bytes count) space ttl pin (Unmade faults.NoMemory)
   lacks_memory bytes count new same closes words hour source still form =
       let P : Devices D → Type 0 = λ d. EachSince (devices_line meaning old) (devices_line meaning d) (Left None) in (
@@ -80,26 +80,26 @@ module _ {D : Type 0} (tells : Bool) (meaning : D → Meaning) (old : Devices D)
         (
           (still, (refl, refl)),
           start,
-          (found.held, λ starts. subst P (sym same) (opening None starts), λ starts im is. let Q : Limits → Type 0 = λ l. Opens l im start in subst Q found.limits_are (closes starts.0 unbroken im is)),
+          (found.held, λ starts. subst P (sym same) (opening None starts), λ starts im is. let Q : Limits → Type 0 = λ l. OpensAs l im start in subst Q found.limits_are (closes starts.0 unbroken im is)),
         ),
       )
 
   module _ (next : BookView D) (goes : GoesOn tells meaning book next) where
     -- up to the book after the entry
-    making : (made : Option Entry) → next.cache ≡ changed start [] made → Starts → EachSince (devices_line meaning old) (line_of meaning next) (Left made)
+    making : (made : Option Entry) → next.cache ≡ changed start [] made → Starts → EachSince (devices_line meaning old) (book_line meaning next) (Left made)
     making made is (told, starts) =
-        let P : Limits → Type 0 = λ l. EachSince (line_of meaning book) (line_of meaning next) (λ im. Opens l im start ⊎ Opens l im next.cache) in
-        let Q : Cache → Type 0 = λ c. EachSince (line_of meaning book) (line_of meaning next) (λ im. Opens standard im start ⊎ Opens standard im c) in
+        let P : Limits → Type 0 = λ l. EachSince (book_line meaning book) (book_line meaning next) (λ im. OpensAs l im start ⊎ OpensAs l im next.cache) in
+        let Q : Cache → Type 0 = λ c. EachSince (book_line meaning book) (book_line meaning next) (λ im. OpensAs standard im start ⊎ OpensAs standard im c) in
         let crash = subst Q is (subst P found.limits_are (goes.crash told unbroken)) in
-        let last = weaker (line_of meaning book) (line_of meaning next) (λ im. Opens standard im start ⊎ Opens standard im (changed start [] made)) (Left made) crash (λ im. ⊎_elim (λ before. inl before) (λ after. inr (inl after))) in
-        then_runs (devices_line meaning old) (line_of meaning book) (line_of meaning next) (Left made) (Left made) (opening made (told, starts)) last (λ im left. left)
+        let last = weaker (book_line meaning book) (book_line meaning next) (λ im. OpensAs standard im start ⊎ OpensAs standard im (changed start [] made)) (Left made) crash (λ im. ⊎_elim (λ before. inl before) (λ after. inr (inl after))) in
+        then_runs (devices_line meaning old) (book_line meaning book) (book_line meaning next) (Left made) (Left made) (opening made (told, starts)) last (λ im left. left)
 
     module _ (sink : Effect Bytes) where
       abbrev here : Option ℕ → Effect Bytes → Scene D
       here hour source = scene tells meaning old next.devices hour source sink
 
       abbrev Closes : Devices D → Type 0
-      Closes new = IsTrue tells → broken_by next.steps ≡ None → EachImage (devices_line meaning new) (λ im. Opens (limits_of next) im next.cache)
+      Closes new = IsTrue tells → broken_by next.steps ≡ None → EachImage (devices_line meaning new) (λ im. OpensAs (limits_of next) im next.cache)
 
       asks : (hour : Option ℕ) (source : Effect Bytes) (answer : Result (Unit {0}) StoreFault) (made : Option Entry) → SpaceAs start.index space ttl pin answer made → next.cache ≡ changed start [] made
           → AsksSpace (here hour source) space ttl pin start answer made
@@ -112,12 +112,12 @@ module _ {D : Type 0} (tells : Bool) (meaning : D → Meaning) (old : Devices D)
       leaves : (hour : Option ℕ) (source : Effect Bytes) (made : Option Entry) → Closes next.devices → broken_by next.steps ≡ None → next.cache ≡ changed start [] made → (made ≡ None) ⊎ (made ≡ Some (Space space ttl pin))
           → LeavesAfter (here hour source) start made
       leaves hour source made closes unbroken_next is which starts im now =
-          let P : Limits → Type 0 = λ l. Opens l im next.cache in
-          let Q : Cache → Type 0 = λ c. Opens standard im c in
+          let P : Limits → Type 0 = λ l. OpensAs l im next.cache in
+          let Q : Cache → Type 0 = λ c. OpensAs standard im c in
           subst Q is (subst P (limits_next made is which) (closes starts.0 unbroken_next im now))
 
       abbrev Answer : Result (Unit {0}) StoreFault → Type 0
-      Answer result = Gives book [] next (WithRoom start.index (past_of book.steps) (SpaceAs start.index space ttl pin)) result
+      Answer result = CommandGives book [] next (WithRoom start.index (past_of book.steps) (SpaceAs start.index space ttl pin)) result
 
       makes : (hour : Option ℕ) (source : Effect Bytes) → IsUntouched source → Closes next.devices → Answer (Ok tt) → MakesSpace (here hour source) space ttl pin
       makes hour source still closes (_, made, answers, becomes) =
@@ -135,7 +135,7 @@ module _ {D : Type 0} (tells : Bool) (meaning : D → Meaning) (old : Devices D)
       never : (fault : StoreFault) (made : Option Entry) → WithRoom start.index (past_of book.steps) (SpaceAs start.index space ttl pin) (Err fault) made → IsFull fault
       never fault made answers = (space_refused start.index space ttl pin fault made (space_as (Err fault) made answers)).1
 
-      lacks : (hour : Option ℕ) (source : Effect Bytes) (fault : StoreFault) → Closes next.devices → Answer (Err fault) → (fault ≡ faults.DiskFailed → Rose (faults_of meaning book) (faults_of meaning next))
+      lacks : (hour : Option ℕ) (source : Effect Bytes) (fault : StoreFault) → Closes next.devices → Answer (Err fault) → (fault ≡ faults.DiskFailed → Rose (book_faults meaning book) (book_faults meaning next))
           → LacksSpace (here hour source) space ttl pin start fault
       lacks hour source (faults.Broken count) closes (broken, same) cause = let e = unbroken in cc
       lacks hour source faults.UnknownSpace closes (_, made, answers, becomes) cause = cc (never faults.UnknownSpace made answers).2
@@ -154,11 +154,11 @@ module _ {D : Type 0} (tells : Bool) (meaning : D → Meaning) (old : Devices D)
           let is = ap (λ b. b.cache) same in (found.held, making None is, leaves hour source None closes (ap (λ b. broken_by b.steps) same ∙ unbroken) is (inl refl))
       lacks hour source faults.DiskFailed closes (_, value, entry, count, count_now, answers, is, steps) cause = (
         (Some entry, asks hour source (Ok tt) (Some entry) (space_as (Ok tt) (Some entry) answers) is),
-        rose_later (devices_faults meaning old) (faults_of meaning book) (faults_of meaning next) found.later (cause refl),
+        rose_later (devices_faults meaning old) (book_faults meaning book) (book_faults meaning next) found.later (cause refl),
       )
       lacks hour source (faults.Damaged name hash) closes (_, made, answers, becomes) cause = cc (never (faults.Damaged name hash) made answers).2
 
-      unmade_next : (fault : StoreFault) → IsUntouched sink → Closes next.devices → Answer (Err fault) → (fault ≡ faults.DiskFailed → Rose (faults_of meaning book) (faults_of meaning next)) → EndsInit tells meaning old next.devices sink space ttl pin (Unmade fault)
+      unmade_next : (fault : StoreFault) → IsUntouched sink → Closes next.devices → Answer (Err fault) → (fault ≡ faults.DiskFailed → Rose (book_faults meaning book) (book_faults meaning next)) → EndsInit tells meaning old next.devices sink space ttl pin (Unmade fault)
       unmade_next fault quiet closes answer cause words hour source still form = (space, ttl, pin, form, ((still, quiet), start, lacks hour source fault closes answer cause))
 
       pub makes_space : (new : Devices D) → new ≡ next.devices → Closes new → Answer (Ok tt) → Appends sink.before sink.after (made_line space ttl pin) → MeetsNoFault sink → EndsInit tells meaning old new sink space ttl pin Made
@@ -171,7 +171,7 @@ module _ {D : Type 0} (tells : Bool) (meaning : D → Meaning) (old : Devices D)
           let P : Devices D → Type 0 = λ d. Closes d → EndsInit tells meaning old d sink space ttl pin Untold in
           subst P (sym same) (λ c. untold_next c answer told rose) closes
 
-      pub refuses_space : (fault : StoreFault) → IsUntouched sink → (new : Devices D) → new ≡ next.devices → Closes new → Answer (Err fault) → (fault ≡ faults.DiskFailed → Rose (faults_of meaning book) (faults_of meaning next)) → EndsInit tells meaning old new sink space ttl pin (Unmade fault)
+      pub refuses_space : (fault : StoreFault) → IsUntouched sink → (new : Devices D) → new ≡ next.devices → Closes new → Answer (Err fault) → (fault ≡ faults.DiskFailed → Rose (book_faults meaning book) (book_faults meaning next)) → EndsInit tells meaning old new sink space ttl pin (Unmade fault)
       refuses_space fault quiet new same closes answer cause =
           let P : Devices D → Type 0 = λ d. Closes d → EndsInit tells meaning old d sink space ttl pin (Unmade fault) in
           subst P (sym same) (λ c. unmade_next fault quiet c answer cause) closes

@@ -8,11 +8,12 @@ use Rattle.ddc_disk.specs.declared.devices.Devices.{Devices}
 use Rattle.ddc_model.specs.declared.rows.Limits.{Limits}
 use Rattle.ddc_model.specs.Limits.{standard}
 use Rattle.ddc_model.specs.History.{broken_by}
-use Rattle.ddc_book.specs.Opening.{Opens, OpenFaultOf}
-use Rattle.ddc_book.specs.declared.fault.OpenFault.{OpenFault}
-use Rattle.ddc_book.specs.declared.fault.OpenFault.TheVariants as open_faults
-use Rattle.ddc_book.specs.Loading.{AsBefore, IsLoaded}
-use Rattle.ddc_book.specs.View.{BookView, limits_of, line_of, faults_of}
+use Rattle.ddc_opening.specs.Opening.{OpensAs, OpenFaultOf}
+use Rattle.ddc_opening.specs.declared.fault.OpenFault.{OpenFault}
+use Rattle.ddc_opening.specs.declared.fault.OpenFault.TheVariants as open_faults
+use Rattle.ddc_opening.specs.Loading.{AsBefore}
+use Rattle.ddc_book.specs.Loading.{IsLoaded}
+use Rattle.ddc_book.specs.View.{BookView, limits_of, book_line, book_faults}
 use Rattle.ddc_model.specs.Sound.{Cache}
 use Rattle.ddc_service.specs.declared.session.SessionEnd.{SessionEnd}
 use Rattle.ddc_service.specs.declared.session.SessionEnd.TheVariants.{Closed, Unread, Cut, Spent, ReadFailed, WriteFailed, DiskFailed, Damaged, NoMemory}
@@ -30,7 +31,7 @@ use Rattle.ddc_service.proofs.Opened.{opens_just}
 use Rattle.ddc_command.proofs.Unopened.{unopens, some_command}
 
 -- nothing was answered yet
-opens_within : (told : Option ℕ) (input : Bytes) (cache : Cache) (im : Images) → Opens standard im cache → OpensWithin told input (just_opened cache) standard im
+opens_within : (told : Option ℕ) (input : Bytes) (cache : Cache) (im : Images) → OpensAs standard im cache → OpensWithin told input (just_opened cache) standard im
 opens_within told input cache im opens = record {
   items = [];
   text = [];
@@ -78,11 +79,11 @@ counts_later s before start NoMemory later h = h
 
 module _ {D : Type 0} (tells : Bool) (meaning : D → Meaning) (old : Devices D) (book next : BookView D) (hour : Option ℕ) (source sink : Effect Bytes) (end : SessionEnd) where
   abbrev ran : Session
-  ran = session hour source sink (effect store_of (faults_of meaning) book next)
+  ran = session hour source sink (effect store_of (book_faults meaning) book next)
 
   module _ (loaded : IsLoaded meaning old standard book) (serves : IsSession ran end)
-      (runs : IsTrue tells → EachImage (line_of meaning book) (λ im. Opens (limits_of book) im book.cache) → EachSince (line_of meaning book) (line_of meaning next) (OpensWithin hour source.before (store_of book) (limits_of book)))
-      (stops : IsTrue tells → Stops ran (line_of meaning next) (limits_of book) end) (limits : limits_of next ≡ limits_of book) (unbroken : end ≢ DiskFailed → broken_by next.steps ≡ None) (counts : CountsAs ran end) where
+      (runs : IsTrue tells → EachImage (book_line meaning book) (λ im. OpensAs (limits_of book) im book.cache) → EachSince (book_line meaning book) (book_line meaning next) (OpensWithin hour source.before (store_of book) (limits_of book)))
+      (stops : IsTrue tells → Stops ran (book_line meaning next) (limits_of book) end) (limits : limits_of next ≡ limits_of book) (unbroken : end ≢ DiskFailed → broken_by next.steps ≡ None) (counts : CountsAs ran end) where
     abbrev scene_at : Devices D → Scene D
     scene_at new = scene tells meaning old new hour source sink
 
@@ -105,28 +106,28 @@ module _ {D : Type 0} (tells : Bool) (meaning : D → Meaning) (old : Devices D)
     session_here : IsSession (session_in here book.cache (store_of next)) end
     session_here = let P : OpenStore → Type 0 = λ store. IsSession (seen_from store) end in subst P just (same_replies ran (devices_faults meaning old) (devices_faults meaning next.devices) end serves)
 
-    stops_here : IsTrue tells → Stops (session_in here book.cache (store_of next)) (line_of meaning next) standard end
+    stops_here : IsTrue tells → Stops (session_in here book.cache (store_of next)) (book_line meaning next) standard end
     stops_here told =
-        let P : OpenStore → Type 0 = λ store. Stops (seen_from store) (line_of meaning next) standard end in
-        let Q : Limits → Type 0 = λ l. Stops (seen_from (store_of book)) (line_of meaning next) l end in
-        subst P just (subst Q loaded.limits_are (same_stops ran (devices_faults meaning old) (devices_faults meaning next.devices) (line_of meaning next) (limits_of book) end (stops told)))
+        let P : OpenStore → Type 0 = λ store. Stops (seen_from store) (book_line meaning next) standard end in
+        let Q : Limits → Type 0 = λ l. Stops (seen_from (store_of book)) (book_line meaning next) l end in
+        subst P just (subst Q loaded.limits_are (same_stops ran (devices_faults meaning old) (devices_faults meaning next.devices) (book_line meaning next) (limits_of book) end (stops told)))
 
-    within_session : OpensTo here book.cache → EachSince (line_of meaning book) (line_of meaning next) Within
+    within_session : OpensTo here book.cache → EachSince (book_line meaning book) (book_line meaning next) Within
     within_session (told, opens) =
-        let P : Limits → Type 0 = λ l. EachSince (line_of meaning book) (line_of meaning next) (OpensWithin hour source.before (store_of book) l) in
-        let Q : OpenStore → Type 0 = λ s. EachSince (line_of meaning book) (line_of meaning next) (OpensWithin hour source.before s standard) in
-        let now : EachImage (line_of meaning book) (λ im. Opens (limits_of book) im book.cache) =
-        λ im is. let R : Limits → Type 0 = λ l. Opens l im book.cache in subst R (sym loaded.limits_are) (opens im (loaded.as_before.since.each (line_of meaning book).moment im loaded.as_before.since.later is)) in
+        let P : Limits → Type 0 = λ l. EachSince (book_line meaning book) (book_line meaning next) (OpensWithin hour source.before (store_of book) l) in
+        let Q : OpenStore → Type 0 = λ s. EachSince (book_line meaning book) (book_line meaning next) (OpensWithin hour source.before s standard) in
+        let now : EachImage (book_line meaning book) (λ im. OpensAs (limits_of book) im book.cache) =
+        λ im is. let R : Limits → Type 0 = λ l. OpensAs l im book.cache in subst R (sym loaded.limits_are) (opens im (loaded.as_before.since.each (book_line meaning book).moment im loaded.as_before.since.later is)) in
         subst Q just (subst P loaded.limits_are (runs told now))
 
-    any_moment : OpensTo here book.cache → EachSince (devices_line meaning old) (line_of meaning next) Within
+    any_moment : OpensTo here book.cache → EachSince (devices_line meaning old) (book_line meaning next) Within
     any_moment opens =
-        let first = weaker (devices_line meaning old) (line_of meaning book) (IsImage (devices_line meaning old)) Within loaded.as_before.since (λ im is. opens_within hour source.before book.cache im (opens.1 im is)) in
-        then_runs (devices_line meaning old) (line_of meaning book) (line_of meaning next) Within Within first (within_session opens) (λ im within. within)
+        let first = weaker (devices_line meaning old) (book_line meaning book) (IsImage (devices_line meaning old)) Within loaded.as_before.since (λ im is. opens_within hour source.before book.cache im (opens.1 im is)) in
+        then_runs (devices_line meaning old) (book_line meaning book) (book_line meaning next) Within Within first (within_session opens) (λ im within. within)
 
     -- the devices that the book gives back, and what a crash leaves of them
     abbrev Closes : Devices D → Type 0
-    Closes new = IsTrue tells → broken_by next.steps ≡ None → EachImage (devices_line meaning new) (λ im. Opens (limits_of next) im next.cache)
+    Closes new = IsTrue tells → broken_by next.steps ≡ None → EachImage (devices_line meaning new) (λ im. OpensAs (limits_of next) im next.cache)
 
     ends_next : Closes next.devices → EndsFor here Replay (Replayed end)
     ends_next closed words form = (
@@ -138,7 +139,7 @@ module _ {D : Type 0} (tells : Bool) (meaning : D → Meaning) (old : Devices D)
         serves = session_here;
         counts = counts_later ran (devices_faults meaning old) start end loaded.as_before.later counts;
         any_moment = any_moment;
-        leaves = λ opens ok im is. let R : Limits → Type 0 = λ l. Opens l im next.cache in subst R (limits ∙ loaded.limits_are) (closed opens.0 (unbroken ok) im is);
+        leaves = λ opens ok im is. let R : Limits → Type 0 = λ l. OpensAs l im next.cache in subst R (limits ∙ loaded.limits_are) (closed opens.0 (unbroken ok) im is);
         stops = λ opens. stops_here opens.0;
       },
     )

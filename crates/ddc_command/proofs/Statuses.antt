@@ -1,7 +1,7 @@
 -- Which ends have the statuses 1 and 2.
 use Rattle.std.proofs.Common.{◌≢◌, arith}
-use Rattle.ddc_book.specs.declared.fault.OpenFault.{OpenFault}
-use Rattle.ddc_book.specs.declared.fault.OpenFault.TheVariants as open_faults
+use Rattle.ddc_opening.specs.declared.fault.OpenFault.{OpenFault}
+use Rattle.ddc_opening.specs.declared.fault.OpenFault.TheVariants as open_faults
 use Rattle.ddc_model.specs.declared.fault.StoreFault.{StoreFault}
 use Rattle.ddc_model.specs.declared.fault.StoreFault.TheVariants as faults
 use Rattle.ddc_service.specs.declared.session.SessionEnd.{SessionEnd}

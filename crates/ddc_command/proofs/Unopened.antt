@@ -2,9 +2,9 @@
 use Rattle.std.proofs.Common.{◌≡◌, ◌≢◌, Option, Some, None, refl, inl, inr, sym, ◌∙◌}
 use Rattle.std.specs.Prelude.{◌⊎◌}
 use Rattle.ddc_model.specs.Limits.{standard}
-use Rattle.ddc_book.specs.Opening.{OpenFaultOf}
-use Rattle.ddc_book.specs.declared.fault.OpenFault.{OpenFault}
-use Rattle.ddc_book.specs.declared.fault.OpenFault.TheVariants.{NotMade, Corrupt, BadVersion, Unsound, DiskFailed, NoMemory}
+use Rattle.ddc_opening.specs.Opening.{OpenFaultOf}
+use Rattle.ddc_opening.specs.declared.fault.OpenFault.{OpenFault}
+use Rattle.ddc_opening.specs.declared.fault.OpenFault.TheVariants.{NotMade, Corrupt, BadVersion, Unsound, DiskFailed, NoMemory}
 use Rattle.ddc_command.specs.declared.command.Command.{Command}
 use Rattle.ddc_command.specs.declared.command.Command.TheVariants.{Replay}
 use Rattle.ddc_command.specs.Ends.{Scene, FirstHeld, DevicesRose, Unopens}

@@ -14,11 +14,11 @@ use Rattle.ddc_model.specs.declared.fault.StoreFault.TheVariants as faults
 use Rattle.ddc_model.specs.Limits.{standard}
 use Rattle.ddc_model.specs.Sound.{Cache, empty_cache, AreWhole}
 use Rattle.ddc_model.specs.Commands.{SpaceAs, changed}
-use Rattle.ddc_book.specs.Opening.{Holds, Opens, OpenFaultOf}
-use Rattle.ddc_book.specs.Loading.{AsBefore, Creates}
-use Rattle.ddc_book.specs.declared.fault.OpenFault.{OpenFault}
-use Rattle.ddc_book.specs.declared.fault.OpenFault.TheVariants.{NotMade}
-use Rattle.ddc_book.specs.declared.fault.OpenFault.TheVariants as open_faults
+use Rattle.ddc_opening.specs.Opening.{HoldsCache, OpensAs, OpenFaultOf}
+use Rattle.ddc_opening.specs.Loading.{AsBefore, Creates}
+use Rattle.ddc_opening.specs.declared.fault.OpenFault.{OpenFault}
+use Rattle.ddc_opening.specs.declared.fault.OpenFault.TheVariants.{NotMade}
+use Rattle.ddc_opening.specs.declared.fault.OpenFault.TheVariants as open_faults
 use Rattle.ddc_service.specs.declared.session.SessionEnd.{SessionEnd}
 use Rattle.ddc_service.specs.declared.session.SessionEnd.TheVariants.{DiskFailed}
 use Rattle.ddc_service.specs.Effects.{Effect, Bytes, Rises, MeetsNoFault, IsUntouched}
@@ -66,7 +66,7 @@ FirstHeld s P = IfSome (s.meaning s.old.first).held P
 
 -- it is a store with this cache
 abbrev pub HeldStore : {D : Type 0} → Scene D → Cache → Type 0
-HeldStore s cache = FirstHeld s (λ file. Holds standard file cache) × AreWhole cache.index
+HeldStore s cache = FirstHeld s (λ file. HoldsCache standard file cache) × AreWhole cache.index
 
 -- no store is made, and the cache is empty
 abbrev pub IsEmptyUnmade : Cache → Images → Type 0
@@ -78,11 +78,11 @@ HeldOrEmpty s cache = HeldStore s cache ⊎ (FirstHeld s (λ file. is_made file 
 
 -- the devices tell what they hold, nothing is pending on them, and what they hold opens to this cache
 abbrev pub OpensTo : {D : Type 0} → Scene D → Cache → Type 0
-OpensTo s cache = IsTrue s.tells × EachImage (line_before s) (λ im. Opens standard im cache)
+OpensTo s cache = IsTrue s.tells × EachImage (line_before s) (λ im. OpensAs standard im cache)
 
 -- the same, or no store is made, and the cache is empty
 abbrev pub StartsFrom : {D : Type 0} → Scene D → Cache → Type 0
-StartsFrom s cache = IsTrue s.tells × EachImage (line_before s) (λ im. Opens standard im cache ⊎ IsEmptyUnmade cache im)
+StartsFrom s cache = IsTrue s.tells × EachImage (line_before s) (λ im. OpensAs standard im cache ⊎ IsEmptyUnmade cache im)
 
 -- nothing was taken from the source, nor written to the sink
 abbrev pub IsQuiet : {D : Type 0} → Scene D → Type 0
@@ -111,7 +111,7 @@ pub record Replays {D : Type 0} (s : Scene D) (start : Cache) (final : OpenStore
   pub serves : IsSession (session_in s start final) end
   pub counts : CountsAs (session_in s start final) end
   pub any_moment : OpensTo s start → EachSince (line_before s) (line_now s) (OpensWithin s.hour s.source.before (just_opened start) standard)
-  pub leaves : OpensTo s start → end ≢ DiskFailed → EachImage (line_now s) (λ im. Opens standard im final.cache)
+  pub leaves : OpensTo s start → end ≢ DiskFailed → EachImage (line_now s) (λ im. OpensAs standard im final.cache)
   pub stops : OpensTo s start → Stops (session_in s start final) (line_now s) standard end
 
 -- ---- a namespace that is made
@@ -119,11 +119,11 @@ pub record Replays {D : Type 0} (s : Scene D) (start : Cache) (final : OpenStore
 -- a crash at any moment of the call leaves the state before or after this entry, or no store where none was made
 abbrev pub LeavesBetween : {D : Type 0} → Scene D → Cache → Option Entry → Type 0
 LeavesBetween s start made =
-    StartsFrom s start → EachSince (line_before s) (line_now s) (λ im. Opens standard im start ⊎ Opens standard im (changed start [] made) ⊎ IsEmptyUnmade start im)
+    StartsFrom s start → EachSince (line_before s) (line_now s) (λ im. OpensAs standard im start ⊎ OpensAs standard im (changed start [] made) ⊎ IsEmptyUnmade start im)
 
 -- at return a crash leaves the state after the entry
 abbrev pub LeavesAfter : {D : Type 0} → Scene D → Cache → Option Entry → Type 0
-LeavesAfter s start made = StartsFrom s start → EachImage (line_now s) (λ im. Opens standard im (changed start [] made))
+LeavesAfter s start made = StartsFrom s start → EachImage (line_now s) (λ im. OpensAs standard im (changed start [] made))
 
 -- a namespace was asked for, with this answer
 pub record AsksSpace {D : Type 0} (s : Scene D) (space : List ℕ) (ttl pin : ℕ) (start : Cache) (answer : Result (Unit {0}) StoreFault) (made : Option Entry) : Type 0 where

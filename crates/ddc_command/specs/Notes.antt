@@ -5,9 +5,9 @@ use Rattle.ddc_names.specs.Names.{hash_text}
 use Rattle.ddc_model.specs.declared.fault.StoreFault.{StoreFault}
 use Rattle.ddc_model.specs.declared.fault.StoreFault.TheVariants.{Broken, UnknownSpace, NotFound, NotFinalised, NotPending, Full, HistoryFull}
 use Rattle.ddc_model.specs.declared.fault.StoreFault.TheVariants as faults
-use Rattle.ddc_book.specs.declared.fault.OpenFault.{OpenFault}
-use Rattle.ddc_book.specs.declared.fault.OpenFault.TheVariants.{NotMade, Corrupt, BadVersion, Unsound}
-use Rattle.ddc_book.specs.declared.fault.OpenFault.TheVariants as open_faults
+use Rattle.ddc_opening.specs.declared.fault.OpenFault.{OpenFault}
+use Rattle.ddc_opening.specs.declared.fault.OpenFault.TheVariants.{NotMade, Corrupt, BadVersion, Unsound}
+use Rattle.ddc_opening.specs.declared.fault.OpenFault.TheVariants as open_faults
 use Rattle.ddc_service.specs.declared.session.SessionEnd.{SessionEnd}
 use Rattle.ddc_service.specs.declared.session.SessionEnd.TheVariants.{Closed, Unread, Cut, Spent, ReadFailed, WriteFailed, DiskFailed, Damaged, NoMemory}
 use Rattle.ddc_command.specs.declared.end.CommandEnd.{CommandEnd}

@@ -22,8 +22,8 @@ use Rattle.ddc_model.specs.Reads.{serve, served}
 use Rattle.ddc_book.specs.declared.reads.Held.{Held}
 use Rattle.ddc_book.specs.declared.reads.Opened.{Opened}
 use Rattle.ddc_book.specs.declared.reads.Opened.TheVariants.{Whole}
-use Rattle.ddc_book.specs.View.{BookView, limits_of, faults_of}
-use Rattle.ddc_book.specs.Calls.{Becomes, Makes, Breaks, Gives, GoesOn, got, whole}
+use Rattle.ddc_book.specs.View.{BookView, limits_of, book_faults}
+use Rattle.ddc_book.specs.Calls.{Becomes, CommandMakes, Breaks, CommandGives, GoesOn, got, opened_bytes}
 use Rattle.ddc_protocol.specs.Requests.{Item}
 use Rattle.ddc_http.specs.declared.reply.WriteFault.{WriteFault}
 use Rattle.ddc_http.specs.declared.reply.WriteFault.TheVariants.{Failed, NoMemory}
@@ -112,7 +112,7 @@ module _ {D : Type 0} (tells : Bool) (meaning : D → Meaning) (sink : Effect By
     abbrev c : ItemCommand
     c = item_command hour store item
 
-    made : (answer : Result c.Value StoreFault) → Makes book c.bytes next c.Command answer → IsReply (says_damaged answer) close hour store item (c.reply close answer) left
+    made : (answer : Result c.Value StoreFault) → CommandMakes book c.bytes next c.Command answer → IsReply (says_damaged answer) close hour store item (c.reply close answer) left
     made answer (_, entry, given, becomes) = (answer, entry, given, refl, becomes_store c.bytes entry becomes, refl)
 
     fine_turned : (answer : Result c.Value StoreFault) (written : Result (Unit {0}) WriteFault) → IsReply false close hour store item (c.reply close answer) left → WritesAs sink (c.reply close answer) written
@@ -121,7 +121,7 @@ module _ {D : Type 0} (tells : Bool) (meaning : D → Meaning) (sink : Effect By
     fine_turned answer (Err Failed) is w = (false, c.reply close answer, is, w.0)
     fine_turned answer (Err NoMemory) is w = (w.0, inr (c.reply close answer, is))
 
-    fine : (answer : Result c.Value StoreFault) (written : Result (Unit {0}) WriteFault) → says_damaged answer ≡ false → Makes book c.bytes next c.Command answer → WritesAs sink (c.reply close answer) written
+    fine : (answer : Result c.Value StoreFault) (written : Result (Unit {0}) WriteFault) → says_damaged answer ≡ false → CommandMakes book c.bytes next c.Command answer → WritesAs sink (c.reply close answer) written
         → AnswersRequest tells meaning sink close hour book item next (written_turn written)
     fine answer written sound (ready, entry, given, becomes) w = record {
       turned = fine_turned answer written (subst (λ (d : Bool). IsReply d close hour store item (c.reply close answer) left) sound (made answer (ready, entry, given, becomes))) w;
@@ -138,7 +138,7 @@ module _ {D : Type 0} (tells : Bool) (meaning : D → Meaning) (sink : Effect By
     damaged_turned answer (Err Failed) is w = (true, c.reply close answer, is, w.0)
     damaged_turned answer (Err NoMemory) is w = (c.reply close answer, is, no_text sink.before sink.after (c.reply close answer) w.0)
 
-    damaged : (name found : IoHash) (written : Result (Unit {0}) WriteFault) → Makes book c.bytes next c.Command (Err (Damaged name found)) → WritesAs sink (c.reply close (Err (Damaged name found))) written
+    damaged : (name found : IoHash) (written : Result (Unit {0}) WriteFault) → CommandMakes book c.bytes next c.Command (Err (Damaged name found)) → WritesAs sink (c.reply close (Err (Damaged name found))) written
         → AnswersRequest tells meaning sink close hour book item next (damaged_turn written)
     damaged name found written (ready, entry, given, becomes) w = record {
       turned = damaged_turned (Err (Damaged name found)) written (made (Err (Damaged name found)) (ready, entry, given, becomes)) w;
@@ -149,7 +149,7 @@ module _ {D : Type 0} (tells : Bool) (meaning : D → Meaning) (sink : Effect By
       disk = λ e. absurd (damaged_ends written e);
     }
 
-    breaks : (written : Result (Unit {0}) WriteFault) → c.reply close (Err DiskFailed) ≡ failed_reply → Breaks book c.bytes next c.Command → Rose (faults_of meaning book) (faults_of meaning next) → WritesAs sink (c.reply close (Err DiskFailed)) written
+    breaks : (written : Result (Unit {0}) WriteFault) → c.reply close (Err DiskFailed) ≡ failed_reply → Breaks book c.bytes next c.Command → Rose (book_faults meaning book) (book_faults meaning next) → WritesAs sink (c.reply close (Err DiskFailed)) written
         → AnswersRequest tells meaning sink close hour book item next (Over ends.DiskFailed)
     breaks written text (_, value, entry, count, risen, given, cache, steps) cause w =
         let is : left ≡ store_after store c.bytes (Some entry) = store_is next.cache (changed book.cache c.bytes (Some entry)) (past_of next.steps) (one_entry_more (past_of book.steps) entry) cache (ap past_of steps ∙ past_more none_yet book.steps (Change entry ∷ Broke true count risen ∷ [])) in
@@ -176,8 +176,8 @@ module _ {D : Type 0} (tells : Bool) (meaning : D → Meaning) (sink : Effect By
     }
 
     -- whatever the book answered
-    pub answers : (answer : Result c.Value StoreFault) (written : Result (Unit {0}) WriteFault) → c.reply close (Err DiskFailed) ≡ failed_reply → Gives book c.bytes next c.Command answer
-        → (answer ≡ Err DiskFailed → Rose (faults_of meaning book) (faults_of meaning next)) → (answer ≡ Err faults.NoMemory → written ≡ Err NoMemory) → WritesAs sink (c.reply close answer) written
+    pub answers : (answer : Result c.Value StoreFault) (written : Result (Unit {0}) WriteFault) → c.reply close (Err DiskFailed) ≡ failed_reply → CommandGives book c.bytes next c.Command answer
+        → (answer ≡ Err DiskFailed → Rose (book_faults meaning book) (book_faults meaning next)) → (answer ≡ Err faults.NoMemory → written ≡ Err NoMemory) → WritesAs sink (c.reply close answer) written
         → AnswersRequest tells meaning sink close hour book item next (turn_of answer written)
     answers (Ok value) written text given cause none w = fine (Ok value) written refl given w
     answers (Err (Broken count)) written text given cause none w = absurd (let was = given.0 in cc)
@@ -194,7 +194,7 @@ module _ {D : Type 0} (tells : Bool) (meaning : D → Meaning) (sink : Effect By
 -- ---- the object of a reference
 
 module _ {D : Type 0} (book next : BookView D) (Command : Result (IoHash × List ℕ) StoreFault → Option Entry → Type 0) where
-  pub got_gives : (answer : Result Held StoreFault) → Gives book [] next (λ held made. Command (got held) made) answer → Gives book [] next Command (got answer)
+  pub got_gives : (answer : Result Held StoreFault) → CommandGives book [] next (λ held made. Command (got held) made) answer → CommandGives book [] next Command (got answer)
   got_gives (Ok held) given = given
   got_gives (Err (Broken count)) given = given
   got_gives (Err UnknownSpace) given = given
@@ -243,7 +243,7 @@ pub is_of_blobs : (cache : Cache) (space : List ℕ) (hash : IoHash) → IsOfBlo
 is_of_blobs cache space hash = of_space hash (get cache.bytes (blob_name space hash)) (has_space cache.index space)
 
 module _ {D : Type 0} (book next : BookView D) (unbroken : broken_by book.steps ≡ None) (same : next ≡ book) where
-  fetch_gives : (served : Result (List ℕ) StoreFault) → IsOfBlobs served → Gives book [] next (OnlyAnswers served) served
+  fetch_gives : (served : Result (List ℕ) StoreFault) → IsOfBlobs served → CommandGives book [] next (OnlyAnswers served) served
   fetch_gives (Ok bytes) is = (unbroken, None, (refl, refl), same)
   fetch_gives (Err (Broken count)) is = absurd is
   fetch_gives (Err UnknownSpace) is = (unbroken, None, (refl, refl), same)
@@ -256,20 +256,20 @@ module _ {D : Type 0} (book next : BookView D) (unbroken : broken_by book.steps 
   fetch_gives (Err DiskFailed) is = absurd is
   fetch_gives (Err (Damaged name found)) is = (unbroken, None, (refl, refl), same)
 
-  pub whole_gives : (space : List ℕ) (hash : IoHash) (answer : Result Opened StoreFault) → (answer ≡ Err faults.NoMemory) ⊎ (whole answer ≡ unless_broken book.steps (serve book.cache space hash))
-      → Gives book [] next (OnlyAnswers (serve book.cache space hash)) (whole answer)
+  pub whole_gives : (space : List ℕ) (hash : IoHash) (answer : Result Opened StoreFault) → (answer ≡ Err faults.NoMemory) ⊎ (opened_bytes answer ≡ unless_broken book.steps (serve book.cache space hash))
+      → CommandGives book [] next (OnlyAnswers (serve book.cache space hash)) (opened_bytes answer)
   whole_gives space hash answer given = elim given [
-    | inl e ↦ subst (λ (r : Result Opened StoreFault). Gives book [] next (OnlyAnswers (serve book.cache space hash)) (whole r)) (sym e) (unbroken, same)
+    | inl e ↦ subst (λ (r : Result Opened StoreFault). CommandGives book [] next (OnlyAnswers (serve book.cache space hash)) (opened_bytes r)) (sym e) (unbroken, same)
     | inr e ↦
-        let is : whole answer ≡ serve book.cache space hash = e ∙ ap (λ (b : Option ℕ). broken_or b (serve book.cache space hash)) unbroken in
-        subst (λ (r : Result (List ℕ) StoreFault). Gives book [] next (OnlyAnswers (serve book.cache space hash)) r) (sym is) (fetch_gives (serve book.cache space hash) (is_of_blobs book.cache space hash))
+        let is : opened_bytes answer ≡ serve book.cache space hash = e ∙ ap (λ (b : Option ℕ). broken_or b (serve book.cache space hash)) unbroken in
+        subst (λ (r : Result (List ℕ) StoreFault). CommandGives book [] next (OnlyAnswers (serve book.cache space hash)) r) (sym is) (fetch_gives (serve book.cache space hash) (is_of_blobs book.cache space hash))
   ]
 
-pub whole_fault : (answer : Result Opened StoreFault) (fault : StoreFault) → whole answer ≡ Err fault → answer ≡ Err fault
+pub whole_fault : (answer : Result Opened StoreFault) (fault : StoreFault) → opened_bytes answer ≡ Err fault → answer ≡ Err fault
 whole_fault (Ok (Whole bytes)) fault e = absurd (cc)
 whole_fault (Err other) fault e = let same : other ≡ fault = fault_is other fault e in ap (λ (f : StoreFault). let r : Result Opened StoreFault = Err f in r) same
 
-pub whole_turn : (answer : Result Opened StoreFault) (written : Result (Unit {0}) WriteFault) → turn_of (whole answer) written ≡ turn_of answer written
+pub whole_turn : (answer : Result Opened StoreFault) (written : Result (Unit {0}) WriteFault) → turn_of (opened_bytes answer) written ≡ turn_of answer written
 whole_turn (Ok (Whole bytes)) written = refl
 whole_turn (Err fault) written = refl
 
@@ -278,9 +278,9 @@ no_disk (Ok bytes) is e = cc
 no_disk (Err fault) is e = subst IsOfBlob (fault_is fault DiskFailed e) is
 
 -- a look-up ends in no fault of a disk
-pub whole_sure : (cache : Cache) (steps : List Step) (space : List ℕ) (hash : IoHash) (answer : Result Opened StoreFault) → broken_by steps ≡ None → (answer ≡ Err faults.NoMemory) ⊎ (whole answer ≡ unless_broken steps (serve cache space hash))
-    → whole answer ≡ Err DiskFailed → ⊥
+pub whole_sure : (cache : Cache) (steps : List Step) (space : List ℕ) (hash : IoHash) (answer : Result Opened StoreFault) → broken_by steps ≡ None → (answer ≡ Err faults.NoMemory) ⊎ (opened_bytes answer ≡ unless_broken steps (serve cache space hash))
+    → opened_bytes answer ≡ Err DiskFailed → ⊥
 whole_sure cache steps space hash answer unbroken given e = elim given [
-  | inl none ↦ let both : ◌≡◌ {A = Result (List ℕ) StoreFault} (Err faults.NoMemory) (Err DiskFailed) = sym (ap (λ (r : Result Opened StoreFault). whole r) none) ∙ e in cc
+  | inl none ↦ let both : ◌≡◌ {A = Result (List ℕ) StoreFault} (Err faults.NoMemory) (Err DiskFailed) = sym (ap (λ (r : Result Opened StoreFault). opened_bytes r) none) ∙ e in cc
   | inr is ↦ no_disk (serve cache space hash) (is_of_blobs cache space hash) (sym (is ∙ ap (λ (b : Option ℕ). broken_or b (serve cache space hash)) unbroken) ∙ e)
 ]

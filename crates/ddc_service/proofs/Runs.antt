@@ -4,7 +4,7 @@ use Rattle.std.specs.Io.KnownBytes.{Keeps, Appends, Consumes}
 use Rattle.std.proofs.KnownBytes.{Appends-trans, Appends-kept, Consumes-trans}
 use Rattle.ddc_protocol.specs.Requests.{Item, Begins, IsRequestText, EndsAs, IsUnread, IsCut, End, closed, cut, unread, spent, most_items}
 use Rattle.ddc_protocol.specs.Replies.{unread_reply}
-use Rattle.ddc_http.specs.Reader.{Ahead, ahead, bytes_of_ahead}
+use Rattle.ddc_http.specs.Reader.{Ahead, stream_ahead, bytes_of_ahead}
 use Rattle.ddc_service.specs.declared.session.SessionEnd.{SessionEnd}
 use Rattle.ddc_service.specs.declared.session.SessionEnd.TheVariants.{Closed, Unread, Cut, Spent, ReadFailed, WriteFailed, DiskFailed, Damaged, NoMemory}
 use Rattle.ddc_service.specs.declared.session.Turn.TheVariants.{Over}
@@ -56,17 +56,17 @@ pub record SoFar (told : Option ℕ) (input : Bytes) (here : Ahead) (old now : B
   pub placed : place ≡ length front
   pub bounded : length front ≤ count * 67125248
 
-consumes_none : (input : Bytes) → Consumes input (bytes_of_ahead (ahead [] input)) []
+consumes_none : (input : Bytes) → Consumes input (bytes_of_ahead (stream_ahead [] input)) []
 consumes_none None = tt
 consumes_none (Some bytes) = refl
 
-pub at_start : (told : Option ℕ) (input old : Bytes) (start : OpenStore) (held : List ℕ) (place : ℕ) → held ≡ [] → place ≡ 0 → SoFar told input (ahead held input) old old start start 0 place
+pub at_start : (told : Option ℕ) (input old : Bytes) (start : OpenStore) (held : List ℕ) (place : ℕ) → held ≡ [] → place ≡ 0 → SoFar told input (stream_ahead held input) old old start start 0 place
 at_start told input old start held place bare is = record {
   items = [];
   front = [];
   text = [];
   begins = refl;
-  consumed = subst (λ (bytes : List ℕ). Consumes input (bytes_of_ahead (ahead bytes input)) []) (sym bare) (consumes_none input);
+  consumed = subst (λ (bytes : List ℕ). Consumes input (bytes_of_ahead (stream_ahead bytes input)) []) (sym bare) (consumes_none input);
   runs = (refl, refl);
   wrote = appends_none old;
   counted = refl;
@@ -106,7 +106,7 @@ always (Some x) count e = e
 
 -- what a turn does with which a session ends, up to there
 abbrev pub turn_reading : Session → Ahead → List ℕ → ℕ → ℕ → Reading
-turn_reading s here held from to = record { old = here; new = ahead held s.source.after; place = from; place_after = to }
+turn_reading s here held from to = record { old = here; new = stream_ahead held s.source.after; place = from; place_after = to }
 
 abbrev pub turn_sink : Session → Bytes → ℕ → Effect Bytes
 turn_sink s mid faults = record { before = mid; after = s.sink.after; faults_before = faults; faults_after = s.sink.faults_after }
@@ -125,7 +125,7 @@ module _ (s : Session) (here : Ahead) (held : List ℕ) (mid : Bytes) (faults : 
     begun = begins_snoc far.items item (far.front ++ took.0) took.0 [] (subst (λ (r : List ℕ). Begins (far.front ++ took.0) far.items r) (sym (append-nil took.0)) (begins_more far.items far.front [] took.0 far.begins)) took.1
 
     pub one_begins : StartsAs s.source.before (far.items ++ item ∷ [])
-    one_begins = starts_as s.source.before (bytes_of_ahead (ahead held s.source.after)) (far.front ++ took.0) (far.items ++ item ∷ []) (Consumes-trans s.source.before (bytes_of_ahead here) (bytes_of_ahead (ahead held s.source.after)) far.front took.0 far.consumed took.2) begun
+    one_begins = starts_as s.source.before (bytes_of_ahead (stream_ahead held s.source.after)) (far.front ++ took.0) (far.items ++ item ∷ []) (Consumes-trans s.source.before (bytes_of_ahead here) (bytes_of_ahead (stream_ahead held s.source.after)) far.front took.0 far.consumed took.2) begun
 
     one_more : (damaged : Bool) (more : List ℕ) → IsReplyAt s.hour damaged close at item more s.store.after → OneMore s.hour s.source.before s.store.before s.store.after damaged far.text more
     one_more damaged more answers = record {
@@ -151,7 +151,7 @@ module _ (s : Session) (here : Ahead) (held : List ℕ) (mid : Bytes) (faults : 
   stays : s.store.after ≡ at → Runs s.hour 0 s.store.before far.items far.text s.store.after
   stays same = subst (λ (store : OpenStore). Runs s.hour 0 s.store.before far.items far.text store) (sym same) far.runs
 
-  pub extends : TurnAs s.hour (turn_reading s here held from to) close (turn_sink s mid faults) at s.store.after turns.Answered → SoFar s.hour s.source.before (ahead held s.source.after) s.sink.before s.sink.after s.store.before s.store.after (count + 1) to
+  pub extends : TurnAs s.hour (turn_reading s here held from to) close (turn_sink s mid faults) at s.store.after turns.Answered → SoFar s.hour s.source.before (stream_ahead held s.source.after) s.sink.before s.sink.after s.store.before s.store.after (count + 1) to
   extends (more, (item, took, answers), wrote) =
       let long = length-text took.0 item took.1 in
       let bounded = far.bounded in
@@ -163,7 +163,7 @@ module _ (s : Session) (here : Ahead) (held : List ℕ) (mid : Bytes) (faults : 
         front = far.front ++ took.0;
         text = far.text ++ more;
         begins = begun item took;
-        consumed = Consumes-trans s.source.before (bytes_of_ahead here) (bytes_of_ahead (ahead held s.source.after)) far.front took.0 far.consumed took.2;
+        consumed = Consumes-trans s.source.before (bytes_of_ahead here) (bytes_of_ahead (stream_ahead held s.source.after)) far.front took.0 far.consumed took.2;
         runs = runs_more s.hour far.items item far.text more s.store.before at s.store.after close count last far.counted far.runs answers;
         wrote = Appends-trans s.sink.before mid s.sink.after far.text more far.wrote wrote;
         counted = length-append far.items (item ∷ []) ∙ ap (λ n. n + 1) far.counted;

@@ -73,34 +73,23 @@ pub record ItemCommand : Type 1 where
   pub Command : Result Value StoreFault → Option Entry → Type 0
   pub reply : Bool → Result Value StoreFault → List ℕ
 
+abbrev pub as_command : {A : Type 0} → List ℕ → (Result A StoreFault → Option Entry → Type 0) → (Bool → Result A StoreFault → List ℕ) → ItemCommand
+as_command {A} bytes Command reply = record { Value = A; bytes = bytes; Command = Command; reply = reply }
+
 -- one answer is given, and nothing is made
 abbrev pub OnlyAnswers : {A : Type 0} → Result A StoreFault → Result A StoreFault → Option Entry → Type 0
 OnlyAnswers known answer made = (answer ≡ known) × (made ≡ None)
 
 -- at this hour
 abbrev pub item_command : ℕ → OpenStore → Item → ItemCommand
-item_command hour store (put_blob space content) = record {
-  Value = Unit {0};
-  bytes = content.bytes;
-  Command = WithRoom store.cache.index store.past (UploadAs store.cache.index space content hour);
-  reply = upload_reply (content_hash content.bytes);
-}
-item_command hour store (get_blob space hash) = record { Value = List ℕ; bytes = []; Command = OnlyAnswers (serve store.cache space hash); reply = fetch_reply hash }
-item_command hour store (put_ref name content) = record {
-  Value = List IoHash;
-  bytes = content.bytes;
-  Command = WithRoom store.cache.index store.past (PutAs store.cache.index name content hour);
-  reply = needs_reply;
-}
-item_command hour store (get_ref name) = record { Value = IoHash × List ℕ; bytes = []; Command = HeldAs store.cache store.past name hour; reply = get_reply }
-item_command hour store (finalise name hash) = record {
-  Value = List IoHash;
-  bytes = [];
-  Command = WithRoom store.cache.index store.past (FinaliseAs store.cache.index name hash hour);
-  reply = needs_reply;
-}
-item_command hour store (mismatch expected found) = record { Value = Unit {0}; bytes = []; Command = OnlyAnswers (Ok tt); reply = λ close answer. json_reply 400 (mismatch_body expected found) close }
-item_command hour store (not_object at) = record { Value = Unit {0}; bytes = []; Command = OnlyAnswers (Ok tt); reply = λ close answer. json_reply 400 (not_object_body at) close }
+item_command hour store (put_blob space content) =
+    as_command content.bytes (WithRoom store.cache.index store.past (UploadAs store.cache.index space content hour)) (upload_reply (content_hash content.bytes))
+item_command hour store (get_blob space hash) = as_command [] (OnlyAnswers (serve store.cache space hash)) (fetch_reply hash)
+item_command hour store (put_ref name content) = as_command content.bytes (WithRoom store.cache.index store.past (PutAs store.cache.index name content hour)) needs_reply
+item_command hour store (get_ref name) = as_command [] (HeldAs store.cache store.past name hour) get_reply
+item_command hour store (finalise name hash) = as_command [] (WithRoom store.cache.index store.past (FinaliseAs store.cache.index name hash hour)) needs_reply
+item_command hour store (mismatch expected found) = as_command {A = Unit {0}} [] (OnlyAnswers (Ok tt)) (λ close answer. json_reply 400 (mismatch_body expected found) close)
+item_command hour store (not_object at) = as_command {A = Unit {0}} [] (OnlyAnswers (Ok tt)) (λ close answer. json_reply 400 (not_object_body at) close)
 
 -- a command answers, and the text and the store after it follow; whether the answer says that a blob is damaged
 abbrev pub IsReplyBy : ItemCommand → Bool → Bool → OpenStore → List ℕ → OpenStore → Type 0

@@ -6,7 +6,7 @@ use Rattle.ddc_disk.specs.Disk.{Timeline, EachImage}
 use Rattle.ddc_disk.specs.Images.{Images}
 use Rattle.ddc_model.specs.declared.rows.Limits.{Limits}
 use Rattle.ddc_model.specs.History.{past_of}
-use Rattle.ddc_book.specs.Opening.{Opens}
+use Rattle.ddc_opening.specs.Opening.{OpensAs}
 use Rattle.ddc_book.specs.View.{BookView}
 use Rattle.ddc_protocol.specs.Requests.{Item, Begins, Cuts, HasNoRequestText, End, closed, cut, unread, spent, most_items}
 use Rattle.ddc_protocol.specs.Replies.{unread_reply}
@@ -116,10 +116,10 @@ pub record OpensWithin (told : Option ℕ) (input : Bytes) (start : OpenStore) (
   pub text : List ℕ
   pub state : OpenStore
   pub answered : AnsweredFront told input start items text state
-  pub opens : Opens limits im state.cache
+  pub opens : OpensAs limits im state.cache
 
 -- where the disks failed, a crash after the session leaves the store without the last change or with it
 abbrev pub Stops : Session → Timeline Images → Limits → SessionEnd → Type 0
 Stops s line limits DiskFailed =
-    (text : List ℕ) × (change : OneChange s.hour s.source.before s.store.before s.store.after text) × EachImage line (λ im. Opens limits im change.between.cache ⊎ Opens limits im s.store.after.cache)
+    (text : List ℕ) × (change : OneChange s.hour s.source.before s.store.before s.store.after text) × EachImage line (λ im. OpensAs limits im change.between.cache ⊎ OpensAs limits im s.store.after.cache)
 Stops s line limits other = Unit {0}

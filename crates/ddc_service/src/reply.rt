@@ -3,7 +3,7 @@ ghost use Rattle.std.specs.Prelude.{◌≡◌, ◌++◌, ℕ, IsSome, None, fals
 ghost use Rattle.http.specs.StatusCode.{reason_phrase};
 ghost use Rattle.ddc_model.specs.declared.fault.StoreFault.{StoreFault};
 ghost use Rattle.ddc_model.specs.History.{broken_by};
-ghost use Rattle.ddc_book.specs.Calls.{got, whole};
+ghost use Rattle.ddc_book.specs.Calls.{got, opened_bytes};
 ghost use Rattle.ddc_protocol.specs.Replies.{json_reply, blob_reply, object_reply, identifier_body, needs_body, error_body, damaged_body, fault_reply};
 ghost use Rattle.ddc_http.specs.Heads.{text_of, code_text, IsAnswered, fault_text};
 ghost use Rattle.ddc_http.specs.Reader.{asked_item};
@@ -271,7 +271,7 @@ fn write_opened<W: Sink>(
     answer: &Result<Opened, StoreFault>,
     close: bool,
 ) -> Result<(), WriteFault>
-    ensures gives { WritesAs (effect W.written W.faults sink.old sink.new) (fetch_reply hash close (whole answer.now)) result }
+    ensures gives { WritesAs (effect W.written W.faults sink.old sink.new) (fetch_reply hash close (opened_bytes answer.now)) result }
     ensures memory { answer.now ≡ Err StoreFault.NoMemory → result ≡ Err WriteFault.NoMemory }
 {
     match answer {

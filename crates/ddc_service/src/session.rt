@@ -3,8 +3,8 @@ ghost use Rattle.std.specs.Prelude.{◌≡◌, ◌≢◌, ◌⊎◌, ◌≤◌, 
 ghost use Rattle.ddc_disk.specs.Disk.{EachImage, EachSince};
 ghost use Rattle.ddc_model.specs.History.{broken_by};
 ghost use Rattle.ddc_book.specs.Calls.{GoesOn};
-ghost use Rattle.ddc_book.specs.Opening.{Opens};
-ghost use Rattle.ddc_book.specs.View.{faults_of, limits_of, line_of};
+ghost use Rattle.ddc_opening.specs.Opening.{OpensAs};
+ghost use Rattle.ddc_book.specs.View.{book_faults, limits_of, book_line};
 ghost use Rattle.ddc_http.specs.Stream.{source_of, held_of, place_of, has_ended};
 ghost use Rattle.ddc_service.specs.Effects.{effect, Rises};
 ghost use Rattle.ddc_service.specs.Session.{store_of, session, OpensWithin, IsSession, CountsAs, Stops};
@@ -68,7 +68,7 @@ fn take_turn<D: Disk, S: Source, W: Sink, C: Clock>(
     ensures limits { limits_of book.new ≡ limits_of book.old }
     ensures unbroken { result ≢ Turn.Over SessionEnd.DiskFailed → broken_by book.new.steps ≡ None }
     ensures counts { TurnCounts (effect S.left S.faults (source_of reader.old) (source_of reader.new)) (effect W.written W.faults sink.old sink.new) result }
-    ensures cause { result ≡ Turn.Over SessionEnd.DiskFailed → Rises (effect store_of (faults_of D.meaning) book.old book.new) }
+    ensures cause { result ≡ Turn.Over SessionEnd.DiskFailed → Rises (effect store_of (book_faults D.meaning) book.old book.new) }
 {
     match reader.next() {
         Ok(Some(request)) => answer_request(alloc, book, request, clock.hour(), close, sink),
@@ -105,14 +105,14 @@ fn serve_requests<D: Disk, S: Source, W: Sink, C: Clock>(
     requires place { place_of reader.old ≡ 0 }
     requires unbroken { broken_by book.old.steps ≡ None }
     ensures same_reference { reader.new.source.ghost_name ≡ reader.old.source.ghost_name }
-    ensures gives { IsSession (session (C.tells clock.now) (effect S.left S.faults (source_of reader.old) (source_of reader.new)) (effect W.written W.faults sink.old sink.new) (effect store_of (faults_of D.meaning) book.old book.new)) result }
-    ensures any_moment { IsTrue D.tells → EachImage (line_of D.meaning book.old) (λ im. Opens (limits_of book.old) im book.old.cache)
-        → EachSince (line_of D.meaning book.old) (line_of D.meaning book.new) (OpensWithin (C.tells clock.now) (S.left (source_of reader.old)) (store_of book.old) (limits_of book.old)) }
-    ensures stops { IsTrue D.tells → Stops (session (C.tells clock.now) (effect S.left S.faults (source_of reader.old) (source_of reader.new)) (effect W.written W.faults sink.old sink.new) (effect store_of (faults_of D.meaning) book.old book.new)) (line_of D.meaning book.new) (limits_of book.old) result }
+    ensures gives { IsSession (session (C.tells clock.now) (effect S.left S.faults (source_of reader.old) (source_of reader.new)) (effect W.written W.faults sink.old sink.new) (effect store_of (book_faults D.meaning) book.old book.new)) result }
+    ensures any_moment { IsTrue D.tells → EachImage (book_line D.meaning book.old) (λ im. OpensAs (limits_of book.old) im book.old.cache)
+        → EachSince (book_line D.meaning book.old) (book_line D.meaning book.new) (OpensWithin (C.tells clock.now) (S.left (source_of reader.old)) (store_of book.old) (limits_of book.old)) }
+    ensures stops { IsTrue D.tells → Stops (session (C.tells clock.now) (effect S.left S.faults (source_of reader.old) (source_of reader.new)) (effect W.written W.faults sink.old sink.new) (effect store_of (book_faults D.meaning) book.old book.new)) (book_line D.meaning book.new) (limits_of book.old) result }
     ensures limits { limits_of book.new ≡ limits_of book.old }
     ensures unbroken { result ≢ SessionEnd.DiskFailed → broken_by book.new.steps ≡ None }
-    ensures later_disk { faults_of D.meaning book.old ≤ faults_of D.meaning book.new }
-    ensures counts { CountsAs (session (C.tells clock.now) (effect S.left S.faults (source_of reader.old) (source_of reader.new)) (effect W.written W.faults sink.old sink.new) (effect store_of (faults_of D.meaning) book.old book.new)) result }
+    ensures later_disk { book_faults D.meaning book.old ≤ book_faults D.meaning book.new }
+    ensures counts { CountsAs (session (C.tells clock.now) (effect S.left S.faults (source_of reader.old) (source_of reader.new)) (effect W.written W.faults sink.old sink.new) (effect store_of (book_faults D.meaning) book.old book.new)) result }
 {
     'requests: for count in 0..MOST_ITEMS {
         match take_turn(alloc, reader, book, clock, count + 1 == MOST_ITEMS, sink) {
@@ -132,14 +132,14 @@ pub fn replay_session<D: Disk, S: Source, W: Sink, C: Clock>(
     clock: &C,
 ) -> SessionEnd
     requires { broken_by book.old.steps ≡ None }
-    ensures gives { IsSession (session (C.tells clock.now) (effect S.left S.faults source.old source.new) (effect W.written W.faults sink.old sink.new) (effect store_of (faults_of D.meaning) book.old book.new)) result }
-    ensures any_moment { IsTrue D.tells → EachImage (line_of D.meaning book.old) (λ im. Opens (limits_of book.old) im book.old.cache)
-        → EachSince (line_of D.meaning book.old) (line_of D.meaning book.new) (OpensWithin (C.tells clock.now) (S.left source.old) (store_of book.old) (limits_of book.old)) }
-    ensures stops { IsTrue D.tells → Stops (session (C.tells clock.now) (effect S.left S.faults source.old source.new) (effect W.written W.faults sink.old sink.new) (effect store_of (faults_of D.meaning) book.old book.new)) (line_of D.meaning book.new) (limits_of book.old) result }
+    ensures gives { IsSession (session (C.tells clock.now) (effect S.left S.faults source.old source.new) (effect W.written W.faults sink.old sink.new) (effect store_of (book_faults D.meaning) book.old book.new)) result }
+    ensures any_moment { IsTrue D.tells → EachImage (book_line D.meaning book.old) (λ im. OpensAs (limits_of book.old) im book.old.cache)
+        → EachSince (book_line D.meaning book.old) (book_line D.meaning book.new) (OpensWithin (C.tells clock.now) (S.left source.old) (store_of book.old) (limits_of book.old)) }
+    ensures stops { IsTrue D.tells → Stops (session (C.tells clock.now) (effect S.left S.faults source.old source.new) (effect W.written W.faults sink.old sink.new) (effect store_of (book_faults D.meaning) book.old book.new)) (book_line D.meaning book.new) (limits_of book.old) result }
     ensures limits { limits_of book.new ≡ limits_of book.old }
     ensures unbroken { result ≢ SessionEnd.DiskFailed → broken_by book.new.steps ≡ None }
-    ensures later_disk { faults_of D.meaning book.old ≤ faults_of D.meaning book.new }
-    ensures counts { CountsAs (session (C.tells clock.now) (effect S.left S.faults source.old source.new) (effect W.written W.faults sink.old sink.new) (effect store_of (faults_of D.meaning) book.old book.new)) result }
+    ensures later_disk { book_faults D.meaning book.old ≤ book_faults D.meaning book.new }
+    ensures counts { CountsAs (session (C.tells clock.now) (effect S.left S.faults source.old source.new) (effect W.written W.faults sink.old sink.new) (effect store_of (book_faults D.meaning) book.old book.new)) result }
 {
     match RequestReader::new(alloc, source) {
         Err(_) => SessionEnd::NoMemory,

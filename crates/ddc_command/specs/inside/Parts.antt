@@ -7,11 +7,11 @@ use Rattle.ddc_disk.specs.declared.devices.Devices.{Devices}
 use Rattle.ddc_journal.specs.Journal.{is_made}
 use Rattle.ddc_model.specs.Limits.{standard}
 use Rattle.ddc_model.specs.Sound.{empty_cache, AreWhole}
-use Rattle.ddc_book.specs.Opening.{Holds, Opens}
+use Rattle.ddc_opening.specs.Opening.{HoldsCache, OpensAs}
 use Rattle.ddc_book.specs.Loading.{HasOpened}
-use Rattle.ddc_book.specs.View.{BookView, limits_of, line_of, faults_of}
-use Rattle.ddc_book.specs.declared.fault.OpenFault.{OpenFault}
-use Rattle.ddc_book.specs.declared.fault.OpenFault.TheVariants.{NotMade}
+use Rattle.ddc_book.specs.View.{BookView, limits_of, book_line, book_faults}
+use Rattle.ddc_opening.specs.declared.fault.OpenFault.{OpenFault}
+use Rattle.ddc_opening.specs.declared.fault.OpenFault.TheVariants.{NotMade}
 use Rattle.ddc_service.specs.Effects.{Effect, Bytes, IsUntouched}
 use Rattle.ddc_command.specs.declared.command.Command.{Command}
 use Rattle.ddc_command.specs.declared.command.Command.TheVariants.{Replay, Init}
@@ -44,10 +44,10 @@ pub record FailsToOpen {D : Type 0} (tells : Bool) (meaning : D → Meaning) (ol
 
 -- a book that was opened just now, of the store that the devices held, or of an empty one where they held none
 pub record OpensOrMakes {D : Type 0} (tells : Bool) (meaning : D → Meaning) (old : Devices D) (book : BookView D) : Type 0 where
-  pub held : (IfSome (meaning old.first).held (λ file. Holds standard file book.cache) × AreWhole book.cache.index)
+  pub held : (IfSome (meaning old.first).held (λ file. HoldsCache standard file book.cache) × AreWhole book.cache.index)
       ⊎ (IfSome (meaning old.first).held (λ file. is_made file ≡ false) × (book.cache ≡ empty_cache standard))
   pub limits_are : limits_of book ≡ standard
   pub steps : HasOpened standard book.steps
-  pub later : devices_faults meaning old ≤ faults_of meaning book
-  pub any_moment : IsTrue tells → EachImage (devices_line meaning old) (λ im. Opens standard im book.cache ⊎ IsEmptyUnmade book.cache im)
-      → EachSince (devices_line meaning old) (line_of meaning book) (λ im. Opens standard im book.cache ⊎ IsEmptyUnmade book.cache im)
+  pub later : devices_faults meaning old ≤ book_faults meaning book
+  pub any_moment : IsTrue tells → EachImage (devices_line meaning old) (λ im. OpensAs standard im book.cache ⊎ IsEmptyUnmade book.cache im)
+      → EachSince (devices_line meaning old) (book_line meaning book) (λ im. OpensAs standard im book.cache ⊎ IsEmptyUnmade book.cache im)

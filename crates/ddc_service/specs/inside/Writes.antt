@@ -7,7 +7,7 @@ use Rattle.ddc_model.specs.declared.fault.StoreFault.{StoreFault}
 use Rattle.ddc_model.specs.declared.fault.StoreFault.TheVariants as faults
 use Rattle.ddc_model.specs.History.{broken_by}
 use Rattle.ddc_model.specs.Limits.{most_bytes}
-use Rattle.ddc_book.specs.View.{BookView, limits_of, faults_of}
+use Rattle.ddc_book.specs.View.{BookView, limits_of, book_faults}
 use Rattle.ddc_book.specs.Calls.{GoesOn}
 use Rattle.ddc_protocol.specs.Requests.{Item, put_blob, get_blob, put_ref, get_ref, finalise, mismatch, not_object}
 use Rattle.ddc_http.specs.Flows.{flow, WritesText}
@@ -79,4 +79,4 @@ pub record AnswersRequest {D : Type 0} (tells : Bool) (meaning : D → Meaning) 
   pub limits : limits_of next ≡ limits_of book
   pub unbroken : turn ≢ Over ends.DiskFailed → broken_by next.steps ≡ None
   pub counts : SinkCounts sink turn
-  pub disk : turn ≡ Over ends.DiskFailed → Rises (effect store_of (faults_of meaning) book next)
+  pub disk : turn ≡ Over ends.DiskFailed → Rises (effect store_of (book_faults meaning) book next)

@@ -1,5 +1,5 @@
 use Rattle.std.proofs.Common.{◌++◌, codes, sym, subst}
-use Rattle.ddc_book.specs.declared.fault.OpenFault.{OpenFault}
+use Rattle.ddc_opening.specs.declared.fault.OpenFault.{OpenFault}
 use Rattle.ddc_service.specs.Effects.{effect}
 use Rattle.ddc_command.specs.Notes.{open_note, open_cause}
 use Rattle.ddc_command.specs.inside.Noting.{NotesAs}
