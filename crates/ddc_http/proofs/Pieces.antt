@@ -66,18 +66,25 @@ forget held now a b (front, last, is, taken, small, none) = (front, last, taken,
 pieces-takes : (held now : List ℕ) (a b c : Option (List ℕ)) → HoldsPieces held now a b → TakesPieces now b c → TakesPieces held a c
 pieces-takes held now a b c (f, l, is, taken, small, none) (g, m, more, short, lacks) =
     let P : List ℕ → Type 0 = λ t. Consumes a c t in
-    let Q : List ℕ → Type 0 = HasNoRequestText in
-    ((f ++ l) ++ g, m, subst P (sym (append_assoc (f ++ l) g m)) (consumes-both a b c (f ++ l) (g ++ m) taken more), short,
-     subst Q (ap (λ t. t ++ g) is ∙ append_assoc held (f ++ l) g) lacks)
+    let Q : List ℕ → Type 0 = HasNoRequestText in (
+      (f ++ l) ++ g,
+      m,
+      subst P (sym (append_assoc (f ++ l) g m)) (consumes-both a b c (f ++ l) (g ++ m) taken more),
+      short,
+      subst Q (ap (λ t. t ++ g) is ∙ append_assoc held (f ++ l) g) lacks,
+    )
 
 pieces-holds : (held now new : List ℕ) (a b c : Option (List ℕ)) → HoldsPieces held now a b → HoldsPieces now new b c → HoldsPieces held new a c
 pieces-holds held now new a b c (f, l, is, taken, small, none) (g, m, grown, more, short, lacks) =
     let P : List ℕ → Type 0 = λ t. Consumes a c t in
-    let Q : List ℕ → Type 0 = HasNoRequestText in
-    ((f ++ l) ++ g, m,
-     grown ∙ ap (λ t. t ++ (g ++ m)) is ∙ append_assoc held (f ++ l) (g ++ m) ∙ ap (λ t. held ++ t) (sym (append_assoc (f ++ l) g m)),
-     subst P (sym (append_assoc (f ++ l) g m)) (consumes-both a b c (f ++ l) (g ++ m) taken more), short,
-     subst Q (ap (λ t. t ++ g) is ∙ append_assoc held (f ++ l) g) lacks)
+    let Q : List ℕ → Type 0 = HasNoRequestText in (
+      (f ++ l) ++ g,
+      m,
+      grown ∙ ap (λ t. t ++ (g ++ m)) is ∙ append_assoc held (f ++ l) (g ++ m) ∙ ap (λ t. held ++ t) (sym (append_assoc (f ++ l) g m)),
+      subst P (sym (append_assoc (f ++ l) g m)) (consumes-both a b c (f ++ l) (g ++ m) taken more),
+      short,
+      subst Q (ap (λ t. t ++ g) is ∙ append_assoc held (f ++ l) g) lacks,
+    )
 
 -- the bytes held and the source as they were, or pieces of it
 abbrev pub SameOrHolds : {S : Type 0} → (S → Option (List ℕ)) → S → S → Vec ℕ Global → Vec ℕ Global → Type 0

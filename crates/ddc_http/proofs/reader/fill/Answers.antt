@@ -5,7 +5,7 @@ use Rattle.ddc_protocol.specs.Requests.{HasNoHead, HasNoRequestText}
 use Rattle.ddc_http.specs.inside.Parts.{is_line_feed}
 use Rattle.ddc_http.proofs.Heads.{headless_without_line_feed}
 use Rattle.ddc_http.proofs.Taken.{keeps-more, no_item-without_head}
-use Rattle.ddc_http.proofs.Pieces.{keeps-same, consumes-nothing, consumes-both, takes-piece, takes-nothing, holds-piece}
+use Rattle.ddc_http.proofs.Pieces.{keeps-same, consumes-nothing, consumes-both, takes-piece, takes-nothing}
 use Rattle.ddc_http.proofs.reader.fill.Goals as goal
 
 -- no whole request was held before a piece that was taken

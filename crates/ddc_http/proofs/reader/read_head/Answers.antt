@@ -42,20 +42,20 @@ pieces-preserved g c =
           i.same (rw c.in-Ok-true.field-0-test at c.in-Ok-true.ensures.gives);
       ready = inl (lacks_yet (c.pieces.source ≡ c.args.source.now) c.pieces.held c.args.held.now (subst HasNoHead c.deref.ensures.value c.in-More.ensures.0) i.ready);
       pieces = inr (
-        then-holds left c.args.source.now c.pieces.source c.fill.new.source c.args.held.now c.pieces.held c.fill.new.held.items i.pieces (rw c.in-Ok-true.field-0-test at c.in-Ok-true.ensures.pieces)
-      );
+          then-holds left c.args.source.now c.pieces.source c.fill.new.source c.args.held.now c.pieces.held c.fill.new.held.items i.pieces (rw c.in-Ok-true.field-0-test at c.in-Ok-true.ensures.pieces)
+          );
       faults = i.faults ∙ c.in-Ok-true.ensures.faults;
     }
 
 pub returns-then-is_empty-clause-pieces : goal.returns-then-is_empty-clause-pieces
 returns-then-is_empty-clause-pieces g c = inr (
-  then-takes g.S.Source.left c.args.source.now c.pieces.source c.fill.new.source c.args.held.now c.pieces.held c.pieces.invariant.pieces (rw c.in-Ok-false.field-0-test at c.in-Ok-false.ensures.pieces)
-)
+    then-takes g.S.Source.left c.args.source.now c.pieces.source c.fill.new.source c.args.held.now c.pieces.held c.pieces.invariant.pieces (rw c.in-Ok-false.field-0-test at c.in-Ok-false.ensures.pieces)
+    )
 
 pub returns-in-Ok-false-clause-pieces : goal.returns-in-Ok-false-clause-pieces
 returns-in-Ok-false-clause-pieces g c = inr (
-  then-takes g.S.Source.left c.args.source.now c.pieces.source c.fill.new.source c.args.held.now c.pieces.held c.pieces.invariant.pieces (rw c.in-Ok-false.field-0-test at c.in-Ok-false.ensures.pieces)
-)
+    then-takes g.S.Source.left c.args.source.now c.pieces.source c.fill.new.source c.args.held.now c.pieces.held c.pieces.invariant.pieces (rw c.in-Ok-false.field-0-test at c.in-Ok-false.ensures.pieces)
+    )
 
 pub returns-in-Err-clause-pieces : goal.returns-in-Err-clause-pieces
 returns-in-Err-clause-pieces g c = inr (then-takes g.S.Source.left c.args.source.now c.pieces.source c.fill.new.source c.args.held.now c.pieces.held c.pieces.invariant.pieces c.in-Err.ensures.pieces)

@@ -99,12 +99,12 @@ pieces-preserved g c =
         taken ++ piece,
         consumes-both (g.S.Source.left c.args.source.now) (g.S.Source.left c.pieces.source) after taken piece took c.in-Ok-take.ensures.bytes.0,
         λ more. sym (append_assoc held taken piece) ∙ ap (λ l. l ++ piece) (is (omega arith)) ∙ append_assoc (take c.args.len held) c.pieces.intake.bytes piece
-        ∙ ap (λ b. take c.args.len held ++ b) (sym fed),
+            ∙ ap (λ b. take c.args.len held ++ b) (sym fed),
       );
       pieces = inr (
-        takes-piece (g.S.Source.left c.args.source.now) (g.S.Source.left c.pieces.source) after held taken piece took c.in-Ok-take.ensures.bytes.0 (let count = fits.1 in omega (arith, small))
-        (short_yet held taken c.pieces.intake.bytes c.args.len c.args.size c.requires.body (is (omega arith)) (omega arith))
-      );
+          takes-piece (g.S.Source.left c.args.source.now) (g.S.Source.left c.pieces.source) after held taken piece took c.in-Ok-take.ensures.bytes.0 (let count = fits.1 in omega (arith, small))
+          (short_yet held taken c.pieces.intake.bytes c.args.len c.args.size c.requires.body (is (omega arith)) (omega arith))
+          );
       faults = i.faults ∙ c.in-Ok-take.ensures.cause.same;
     }
 
@@ -121,8 +121,8 @@ returns-in-Err-clause-pieces g c =
     let held = c.args.held.now.items in
     let (taken, took, is) = i.took in
     inr (
-      takes-nothing (g.S.Source.left c.args.source.now) (g.S.Source.left c.pieces.source) (g.S.Source.left c.take-in-pieces.new.self) held taken took c.in-Err.ensures.bytes
-      (short_yet held taken c.pieces.intake.bytes c.args.len c.args.size c.requires.body (is (omega arith)) (omega arith))
+    takes-nothing (g.S.Source.left c.args.source.now) (g.S.Source.left c.pieces.source) (g.S.Source.left c.take-in-pieces.new.self) held taken took c.in-Err.ensures.bytes
+    (short_yet held taken c.pieces.intake.bytes c.args.len c.args.size c.requires.body (is (omega arith)) (omega arith))
     )
 
 pub returns-in-Ok-eq0-clause-pieces : goal.returns-in-Ok-eq0-clause-pieces
@@ -135,8 +135,8 @@ returns-in-Ok-eq0-clause-pieces g c =
     let empty : length piece ≡ 0 = ap (λ k. length (take k c.take-in-pieces.new.into)) none in
     let (taken, took, is) = i.took in
     inr (
-      takes-piece (g.S.Source.left c.args.source.now) (g.S.Source.left c.pieces.source) (g.S.Source.left c.take-in-pieces.new.self) held taken piece took c.in-Ok-eq0.ensures.bytes.0 (omega arith)
-      (short_yet held taken c.pieces.intake.bytes c.args.len c.args.size c.requires.body (is (omega arith)) (omega arith))
+    takes-piece (g.S.Source.left c.args.source.now) (g.S.Source.left c.pieces.source) (g.S.Source.left c.take-in-pieces.new.self) held taken piece took c.in-Ok-eq0.ensures.bytes.0 (omega arith)
+    (short_yet held taken c.pieces.intake.bytes c.args.len c.args.size c.requires.body (is (omega arith)) (omega arith))
     )
 
 pub returns-in-Err-NoMemory-take-clause-pieces : goal.returns-in-Err-NoMemory-take-clause-pieces
@@ -149,6 +149,6 @@ returns-in-Err-NoMemory-take-clause-pieces g c =
     let small : n ≤ 65536 = omega (arith, c.take-in-pieces.auto.into, length-take-le c.min-most.result c.pieces.piece (omega arith)) in
     let (taken, took, is) = i.took in
     inr (
-      takes-piece (g.S.Source.left c.args.source.now) (g.S.Source.left c.pieces.source) (g.S.Source.left c.take-in-pieces.new.self) held taken piece took c.in-Ok-take.ensures.bytes.0
-      (let count = fits.1 in omega (arith, small)) (short_yet held taken c.pieces.intake.bytes c.args.len c.args.size c.requires.body (is (omega arith)) (omega arith))
+    takes-piece (g.S.Source.left c.args.source.now) (g.S.Source.left c.pieces.source) (g.S.Source.left c.take-in-pieces.new.self) held taken piece took c.in-Ok-take.ensures.bytes.0
+    (let count = fits.1 in omega (arith, small)) (short_yet held taken c.pieces.intake.bytes c.args.len c.args.size c.requires.body (is (omega arith)) (omega arith))
     )
