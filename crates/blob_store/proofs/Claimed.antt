@@ -1,15 +1,14 @@
 -- The claims of extents in order.
-use Rattle.std.specs.Prelude.{◌≡◌, ◌≢◌, ℕ, ◌+◌, ◌-◌, ◌≤◌, ◌<◌, ◌⊎◌, Bool, true, false, cond, not, nat_le, nat_lt, nat_eq, ◌&&◌, List, [], ◌∷◌, Option, None, Some, unwrap_or, IsTrue, refl}
+use Rattle.std.specs.Prelude.{◌≡◌, ℕ, ◌+◌, ◌-◌, ◌≤◌, ◌<◌, ◌⊎◌, Bool, true, false, cond, not, nat_le, nat_lt, nat_eq, ◌&&◌, List, [], ◌∷◌, Option, None, Some, unwrap_or, IsTrue, refl}
 use Rattle.std.proofs.Common.{sym, ◌∙◌, ap, subst, inl, inr, ⊎_elim, arith, tests}
 use Rattle.std.proofs.lemmas.Bool.{cases_lt, leb-true, leb-false, ltb-true, ltb-false, lt-ltb, le-ltb, le-leb, eqb-true, eq-eqb}
-use Rattle.std.specs.declared.cmp.Ordering.{Ordering}
 use Rattle.std.specs.declared.cmp.Ordering.TheVariants.{Less, Equal, Greater}
 use Rattle.std.specs.Ordering.{nat_cmp, eq_by_cmp, is_eq, ordering_reverse}
 use Rattle.std.proofs.lemmas.Cmp.{nat_cmp_total}
-use Rattle.std.specs.FinMap.{FinMap, find, put, get, insert, remove, from_entries, get-from_entries, get-insert, get-remove, same_map, nat_cmp-IsAntisymmetric}
+use Rattle.std.specs.FinMap.{FinMap, find, put, insert, remove, from_entries, get-from_entries, get-insert, get-remove, same_map, nat_cmp-IsAntisymmetric}
 use Rattle.std.specs.FinMap.Entries.{find-put, find-where_key}
 use Rattle.ddc_model.specs.declared.rows.Extent.{Extent}
-use Rattle.blob_store.specs.Claims.{Claims, HasUnit, Apart, IsClaim, IsFree, AreApart, IsFirstRun, HasNoRun, with_extent, without_extent}
+use Rattle.blob_store.specs.Claims.{Claims, Apart, IsClaim, IsFree, AreApart, IsFirstRun, HasNoRun, with_extent, without_extent}
 use Rattle.blob_store.specs.inside.Runs.{AreInOrder, Misses, MissesAll, without, next_after, first_gap, end_of}
 use Rattle.blob_store.proofs.Runs.{is_same, is_more, some_is_not_none, same_some}
 use Rattle.blob_store.proofs.Edits.{found_within}
@@ -270,8 +269,8 @@ free_before units extent next es some w o is = (
   λ free. le-leb (extent.start + extent.units) next.start (next_hits extent.start extent.units es next (sym is) (misses_of_free units units extent es some o free)),
 )
 
-pub free_behind_all : (units : ℕ) (extent : Extent) (es : List (ℕ × ℕ)) → extent.start + extent.units ≤ units → None ≡ next_after extent.start es → IsFree (claims_of units es) extent
-free_behind_all units extent es w is = free_of_misses units extent es w (all_ended extent.start extent.units es (sym is))
+pub free_after_all : (units : ℕ) (extent : Extent) (es : List (ℕ × ℕ)) → extent.start + extent.units ≤ units → None ≡ next_after extent.start es → IsFree (claims_of units es) extent
+free_after_all units extent es w is = free_of_misses units extent es w (all_ended extent.start extent.units es (sym is))
 
 -- the first extent that ends after a claimed extent's first unit is that extent
 pub claimed_next : (units : ℕ) (extent : Extent) (es : List (ℕ × ℕ)) → AreInOrder 0 units es → IsClaim (claims_of units es) extent.start extent.units → next_after extent.start es ≡ Some extent

@@ -1,14 +1,13 @@
 -- Extents in order, when one is put among them or taken out.
-use Rattle.std.specs.Prelude.{◌≡◌, ◌≢◌, ℕ, ◌+◌, ◌≤◌, ◌<◌, ◌⊎◌, Bool, true, false, cond, not, List, [], ◌∷◌, ◌++◌, Option, None, Some, refl}
-use Rattle.std.proofs.Common.{sym, ◌∙◌, ap, subst, inl, inr, ⊎_elim, arith}
-use Rattle.std.proofs.lemmas.Bool.{cases_lt}
+use Rattle.std.specs.Prelude.{◌≡◌, ℕ, ◌+◌, ◌≤◌, ◌<◌, true, false, cond, not, List, [], ◌∷◌, ◌++◌, None, Some, refl}
+use Rattle.std.proofs.Common.{sym, ap, subst, ⊎_elim, arith}
 use Rattle.std.specs.declared.cmp.Ordering.{Ordering}
 use Rattle.std.specs.declared.cmp.Ordering.TheVariants.{Less, Equal, Greater}
 use Rattle.std.specs.Ordering.{nat_cmp, eq_by_cmp, is_eq}
 use Rattle.std.specs.FinMap.{find, put, nat_cmp-IsAntisymmetric}
 use Rattle.std.specs.FinMap.Entries.{by_order}
 use Rattle.ddc_model.specs.declared.rows.Extent.{Extent}
-use Rattle.blob_store.specs.inside.Runs.{AreInOrder, Misses, MissesAll, LiesWithin, without, end_of}
+use Rattle.blob_store.specs.inside.Runs.{AreInOrder, MissesAll, LiesWithin, without, end_of}
 use Rattle.blob_store.proofs.Runs.{is_less, is_more, in_order_weaker, in_order_front, in_order_back, in_order_up, not_below, same_some, some_is_not_none}
 
 -- ---- one more

@@ -1,5 +1,5 @@
 -- An extent is put into a parted area, or taken out of it.
-use Rattle.std.specs.Prelude.{◌≡◌, ◌≢◌, ℕ, ◌+◌, ◌≤◌, ◌<◌, ◌⊎◌, true, false, cond, not, List, [], ◌∷◌, ◌++◌, Option, None, Some, IfSome, refl}
+use Rattle.std.specs.Prelude.{◌≡◌, ℕ, ◌+◌, ◌≤◌, ◌<◌, true, false, cond, not, List, [], ◌∷◌, ◌++◌, Option, None, Some, IfSome, refl}
 use Rattle.std.proofs.Common.{sym, ◌∙◌, ap, subst, ⊎_elim, arith}
 use Rattle.std.specs.declared.cmp.Ordering.TheVariants.{Less, Equal, Greater}
 use Rattle.std.specs.Ordering.{nat_cmp, eq_by_cmp, is_eq}
@@ -8,9 +8,9 @@ use Rattle.ddc_model.specs.declared.rows.Extent.{Extent}
 use Rattle.blob_store.specs.declared.area.Area.{Area}
 use Rattle.blob_store.specs.declared.area.Area.TheVariants.{Empty, Parted'}
 use Rattle.blob_store.specs.declared.area.PartedArea.{PartedArea}
-use Rattle.blob_store.specs.inside.Runs.{AreInOrder, Misses, MissesAll, LiesWithin, without, end_of}
+use Rattle.blob_store.specs.inside.Runs.{AreInOrder, MissesAll, LiesWithin, without, end_of}
 use Rattle.blob_store.specs.inside.Areas.{extents_in, listed_held, middle_unit, HasMiddle, IsPlaced, AreSpanned}
-use Rattle.blob_store.proofs.Runs.{is_less, is_more, in_order_weaker, in_order_front, in_order_back, misses_front, misses_back, lies_before, not_below, not_above, found_front, found_back, some_is_not_none, same_some}
+use Rattle.blob_store.proofs.Runs.{is_more, in_order_weaker, in_order_back, misses_front, misses_back, lies_before, not_below, not_above, found_front, found_back, some_is_not_none, same_some}
 use Rattle.blob_store.proofs.Edits.{put_front, put_back, put_in_order, without_append, without_none, without_in_order, found_within, none_after}
 use Rattle.blob_store.proofs.Parts.{parts_in, ArePartsSpanned}
 

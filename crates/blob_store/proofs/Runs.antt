@@ -1,13 +1,11 @@
 -- Extents in order: parts of them, and look-ups.
-use Rattle.std.specs.Prelude.{◌≡◌, ◌≢◌, ℕ, ◌+◌, ◌≤◌, ◌<◌, ◌⊎◌, Bool, true, false, cond, not, nat_lt, List, [], ◌∷◌, ◌++◌, Option, None, Some, refl}
-use Rattle.std.proofs.Common.{sym, ◌∙◌, ap, subst, inl, inr, ⊎_elim, arith, tests}
-use Rattle.std.proofs.lemmas.Bool.{cases_lt}
-use Rattle.std.specs.declared.cmp.Ordering.{Ordering}
+use Rattle.std.specs.Prelude.{◌≡◌, ◌≢◌, ℕ, ◌+◌, ◌≤◌, ◌<◌, true, false, cond, List, [], ◌∷◌, ◌++◌, None, Some, refl}
+use Rattle.std.proofs.Common.{sym, ⊎_elim, arith, tests}
 use Rattle.std.specs.declared.cmp.Ordering.TheVariants.{Less, Equal, Greater}
 use Rattle.std.specs.Ordering.{nat_cmp, eq_by_cmp}
 use Rattle.std.specs.FinMap.{find}
 use Rattle.ddc_model.specs.declared.rows.Extent.{Extent}
-use Rattle.blob_store.specs.inside.Runs.{AreInOrder, Misses, MissesAll, LiesWithin, without, end_of}
+use Rattle.blob_store.specs.inside.Runs.{AreInOrder, MissesAll, end_of}
 
 -- ---- comparisons of units
 

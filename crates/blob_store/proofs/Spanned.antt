@@ -1,11 +1,11 @@
 -- What the span of extents says of a search among them.
-use Rattle.std.specs.Prelude.{◌≡◌, ℕ, ◌+◌, ◌-◌, ◌≤◌, ◌<◌, max, Bool, true, false, cond, nat_lt, nat_le, List, [], ◌∷◌, ◌++◌, Option, None, Some, refl}
-use Rattle.std.proofs.Common.{sym, ◌∙◌, ap, subst, arith, tests}
-use Rattle.std.proofs.lemmas.Bool.{lt-ltb, le-leb, lt-leb}
+use Rattle.std.specs.Prelude.{◌≡◌, ℕ, ◌+◌, ◌-◌, ◌≤◌, ◌<◌, max, true, false, cond, nat_lt, nat_le, List, [], ◌∷◌, ◌++◌, Option, None, Some, refl}
+use Rattle.std.proofs.Common.{sym, ◌∙◌, ap, arith, tests}
+use Rattle.std.proofs.lemmas.Bool.{le-leb, lt-leb}
 use Rattle.ddc_model.specs.declared.rows.Extent.{Extent}
 use Rattle.blob_store.specs.declared.span.Span.{Span}
 use Rattle.blob_store.specs.inside.Runs.{AreInOrder, next_after, first_gap, end_of}
-use Rattle.blob_store.specs.inside.Spans.{extent_span, both_spans, spans_joined, span_from, span_of, SpanFollows}
+use Rattle.blob_store.specs.inside.Spans.{extent_span, spans_joined, span_from, span_of, SpanFollows}
 use Rattle.blob_store.proofs.Runs.{low_end, in_order_back, some_is_not_none}
 
 same_span : (a b : Span) → Some a ≡ Some b → a ≡ b

@@ -1,7 +1,6 @@
 -- The claimed extents among the units of a range, parted at its middle unit.
 use Rattle.std.specs.Prelude.{◌≡◌, ℕ, ◌+◌, ◌-◌, ◌/◌, ◌≤◌, ◌<◌, List, [], ◌∷◌, ◌++◌, Option, None, Some, IfSome}
 use Rattle.ddc_model.specs.declared.rows.Extent.{Extent}
-use Rattle.blob_store.specs.declared.span.Span.{Span}
 use Rattle.blob_store.specs.declared.area.Area.{Area}
 use Rattle.blob_store.specs.declared.area.Area.TheVariants.{Empty, Parted'}
 use Rattle.blob_store.specs.inside.Runs.{AreInOrder}

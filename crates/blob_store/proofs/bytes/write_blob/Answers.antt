@@ -1,4 +1,4 @@
-use Rattle.std.proofs.Common.{◌≡◌, ◌<◌, ℕ, List, length, sym, ap, subst, ◌∙◌}
+use Rattle.std.proofs.Common.{ℕ, List, length, sym, subst}
 use Rattle.std.proofs.lemmas.Result.{on_ok_weaker}
 use Rattle.ddc_disk.specs.Disk.{EachImage, EachSince, IsSure, MayTear, overwritten}
 use Rattle.ddc_disk.specs.Since.{weaker}

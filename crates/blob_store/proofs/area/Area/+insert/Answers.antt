@@ -1,8 +1,8 @@
-use Rattle.std.proofs.Common.{◌≡◌, ◌<◌, ◌≤◌, ◌-◌, ◌+◌, ◌++◌, ◌^◌, ℕ, refl, sym, ap, subst, ◌∙◌, arith}
+use Rattle.std.proofs.Common.{◌≡◌, ◌<◌, ◌-◌, ◌+◌, ◌++◌, ◌^◌, ℕ, refl, sym, ap, subst, ◌∙◌, arith}
 use Rattle.std.specs.Ordering.{nat_cmp}
 use Rattle.std.specs.FinMap.{put}
 use Rattle.blob_store.specs.inside.Areas.{extents_in, listed_held, middle_unit, IsPlaced}
-use Rattle.blob_store.specs.inside.Runs.{AreInOrder, MissesAll, LiesWithin}
+use Rattle.blob_store.specs.inside.Runs.{MissesAll, LiesWithin}
 use Rattle.blob_store.proofs.Runs.{misses_front, misses_back, in_order_weaker}
 use Rattle.blob_store.proofs.Parts.{parts_in}
 use Rattle.blob_store.proofs.Placed.{changing, PutIn, put_right, put_left, put_here}

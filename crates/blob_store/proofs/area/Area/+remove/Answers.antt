@@ -1,8 +1,8 @@
-use Rattle.std.proofs.Common.{◌≡◌, ◌<◌, ◌≤◌, ◌-◌, ◌+◌, ◌++◌, ◌^◌, ℕ, Some, refl, sym, ap, subst, ◌∙◌, arith}
+use Rattle.std.proofs.Common.{◌≡◌, ◌<◌, ◌-◌, ◌+◌, ◌^◌, ℕ, Some, refl, sym, ap, subst, ◌∙◌, arith}
 use Rattle.std.specs.Ordering.{nat_cmp}
 use Rattle.std.specs.FinMap.{find}
-use Rattle.blob_store.specs.inside.Areas.{extents_in, listed_held, middle_unit, IsPlaced}
-use Rattle.blob_store.specs.inside.Runs.{AreInOrder, without}
+use Rattle.blob_store.specs.inside.Areas.{extents_in, middle_unit, IsPlaced}
+use Rattle.blob_store.specs.inside.Runs.{without}
 use Rattle.blob_store.proofs.Runs.{in_order_weaker}
 use Rattle.blob_store.proofs.Edits.{found_within}
 use Rattle.blob_store.proofs.Spanned.{no_span}

@@ -1,8 +1,8 @@
-use Rattle.std.proofs.Common.{◌≡◌, ◌<◌, ℕ, List, sym, ap, subst, ◌∙◌, arith}
+use Rattle.std.proofs.Common.{sym, ap, subst, ◌∙◌}
 use Rattle.blob_store.specs.Claims.{Claims, AreApart, IsFree, with_extent}
 use Rattle.blob_store.specs.inside.Areas.{extents_in}
 use Rattle.blob_store.proofs.Placed.{in_order_of}
-use Rattle.blob_store.proofs.Claimed.{claims_of, misses_of_free, are_apart, added}
+use Rattle.blob_store.proofs.Claimed.{misses_of_free, are_apart, added}
 use Rattle.blob_store.proofs.store.BlobStore.claim.Goals as goal
 
 pub insert-requires-clause-free : goal.insert-requires-clause-free

@@ -1,4 +1,4 @@
-use Rattle.std.proofs.Common.{◌≡◌, ◌<◌, ◌≤◌, ℕ, List, sym, ap, subst, ◌∙◌, arith, ◌^◌, unwrap_or, Option}
+use Rattle.std.proofs.Common.{◌≡◌, ◌<◌, ℕ, sym, ap, subst, ◌∙◌, arith, ◌^◌, unwrap_or, Option}
 use Rattle.blob_store.specs.inside.Areas.{extents_in}
 use Rattle.blob_store.specs.inside.Runs.{first_gap}
 use Rattle.blob_store.specs.Claims.{IsFirstRun, HasNoRun}

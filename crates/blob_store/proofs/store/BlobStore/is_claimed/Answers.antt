@@ -1,4 +1,4 @@
-use Rattle.std.proofs.Common.{◌≡◌, ◌<◌, ◌^◌, ℕ, Some, sym, ap, subst, ◌∙◌, arith}
+use Rattle.std.proofs.Common.{◌^◌, Some, sym, ap, subst, ◌∙◌, arith}
 use Rattle.ddc_model.specs.declared.rows.Extent.{Extent}
 use Rattle.blob_store.specs.Claims.{IsClaim}
 use Rattle.blob_store.specs.inside.Areas.{extents_in}

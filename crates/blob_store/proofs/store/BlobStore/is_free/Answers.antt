@@ -1,9 +1,9 @@
-use Rattle.std.proofs.Common.{rules, ◌≡◌, ◌<◌, ◌≤◌, ◌+◌, ℕ, List, sym, ap, subst, ◌∙◌, arith, ◌^◌}
+use Rattle.std.proofs.Common.{rules, ◌≤◌, ◌+◌, sym, subst, arith, ◌^◌}
 use Rattle.blob_store.specs.Claims.{AreApart, IsFree}
 use Rattle.blob_store.specs.inside.Areas.{extents_in}
 use Rattle.blob_store.proofs.Placed.{in_order_of}
 use Rattle.blob_store.proofs.Runs.{in_order_weaker}
-use Rattle.blob_store.proofs.Claimed.{free_before, free_behind_all, are_apart}
+use Rattle.blob_store.proofs.Claimed.{free_before, free_after_all, are_apart}
 use Rattle.blob_store.proofs.store.BlobStore.is_free.Goals as goal
 
 pub next_after-requires-clause-ordered : goal.next_after-requires-clause-ordered
@@ -21,7 +21,7 @@ returns-else-units-eq0-clause-free c =
 pub returns-in-None-clause-free : goal.returns-in-None-clause-free
 returns-in-None-clause-free c =
     let within : c.args.extent.start + c.args.extent.units ≤ c.self.inside.units = omega (arith, c.if-extent-self.false, c.if-self-extent.false) in
-    (λ yes. subst (λ s. IsFree s c.args.extent) c.self.view_is (free_behind_all c.self.inside.units c.args.extent (extents_in c.self.inside.area) within c.in-None.ensures), λ free. search rules)
+    (λ yes. subst (λ s. IsFree s c.args.extent) c.self.view_is (free_after_all c.self.inside.units c.args.extent (extents_in c.self.inside.area) within c.in-None.ensures), λ free. search rules)
 
 pub returns-then-extent-self-clause-apart : goal.returns-then-extent-self-clause-apart
 returns-then-extent-self-clause-apart c = subst AreApart c.self.view_is (are_apart c.self.inside.units (extents_in c.self.inside.area) (in_order_of 0 c.self.inside.units c.self.inside.area c.self.invariant.1))

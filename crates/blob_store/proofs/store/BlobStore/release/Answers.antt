@@ -1,8 +1,8 @@
-use Rattle.std.proofs.Common.{◌≡◌, ◌<◌, ℕ, List, sym, ap, subst, ◌∙◌, arith}
+use Rattle.std.proofs.Common.{sym, ap, subst, ◌∙◌}
 use Rattle.blob_store.specs.Claims.{Claims, AreApart, IsClaim, without_extent}
 use Rattle.blob_store.specs.inside.Areas.{extents_in}
 use Rattle.blob_store.proofs.Placed.{in_order_of}
-use Rattle.blob_store.proofs.Claimed.{claims_of, found, are_apart, taken}
+use Rattle.blob_store.proofs.Claimed.{found, are_apart, taken}
 use Rattle.blob_store.proofs.store.BlobStore.release.Goals as goal
 
 pub remove-requires-clause-there : goal.remove-requires-clause-there
