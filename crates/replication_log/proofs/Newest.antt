@@ -1,10 +1,9 @@
 -- The newest of some events, and what adding one leaves.
-use Rattle.std.proofs.Common.{◌≡◌, ℕ, zero, suc, ◌+◌, ◌-◌, ◌<◌, ◌≤◌, ◌==◌, nat_le, Bool, true, false, ◌&&◌, ◌||◌, ◌⊎◌, inl, inr, List, [], ◌∷◌, ◌++◌, length, drop, refl, sym, ap, ◌∙◌, subst, arith, length-append}
+use Rattle.std.proofs.Common.{◌≡◌, ℕ, ◌+◌, ◌-◌, ◌≤◌, ◌==◌, nat_le, Bool, true, false, ◌&&◌, ◌||◌, ◌⊎◌, inl, inr, List, [], ◌∷◌, ◌++◌, length, drop, refl, sym, ap, ◌∙◌, arith, length-append}
 use Rattle.std.proofs.lemmas.Bool.{eqb-true, leb-true}
 use Rattle.std.proofs.lemmas.List.{length-drop, drop-drop, drop-append-le}
 use Rattle.replication_log.specs.declared.event.Event.{Event}
-use Rattle.replication_log.specs.Logs.{Log, empty_log, newest, with_event, first_number, oldest_of, AreNumbered, IsLog, can_follow}
-use Rattle.replication_log.specs.Readers.{IsHistory}
+use Rattle.replication_log.specs.Logs.{Log, newest, with_event, first_number, oldest_of, AreNumbered, IsLog, can_follow}
 use Rattle.replication_log.proofs.Numbers.{first_is, numbered_at, numbered_drop, numbered_append}
 
 -- events with consecutive numbers from `first`, at least 1, up to `last`

@@ -1,9 +1,9 @@
 -- A log beside all events that were added to it, and what a reader has read of them.
-use Rattle.std.proofs.Common.{◌≡◌, ℕ, zero, suc, ◌+◌, ◌-◌, ◌<◌, ◌≤◌, ◌==◌, min, Bool, true, false, cond, ◌||◌, nat_lt, ◌⊎◌, inl, inr, Ok, List, [], ◌∷◌, ◌++◌, length, take, drop, refl, sym, ap, ◌∙◌, subst, arith, length-append, eq-eqb}
+use Rattle.std.proofs.Common.{◌≡◌, ℕ, zero, suc, ◌+◌, ◌-◌, ◌≤◌, min, Bool, true, false, cond, ◌||◌, nat_lt, ◌⊎◌, inl, inr, Ok, List, [], ◌∷◌, ◌++◌, length, take, drop, refl, sym, ap, ◌∙◌, subst, arith, length-append, eq-eqb}
 use Rattle.std.proofs.lemmas.List.{length-take, length-drop, drop-drop, take-append-drop, take-append-le, take_all}
 use Rattle.std.proofs.Math.Seq.{take-append-add}
 use Rattle.replication_log.specs.declared.event.Event.{Event}
-use Rattle.replication_log.specs.Logs.{Log, newest, with_event, first_number, oldest_of, AreNumbered, IsLog, can_follow}
+use Rattle.replication_log.specs.Logs.{Log, newest, with_event, first_number, oldest_of, AreNumbered, can_follow}
 use Rattle.replication_log.specs.LogPages.{events_after, ReadsOn}
 use Rattle.replication_log.specs.Readers.{IsHistory, LogKeepsNewest, last_number, Reading, begins, added, turned, MissesNothing, ReaderMissesNothing, ReaderReadsAll, PageGoesOn}
 use Rattle.replication_log.proofs.Numbers.{first_is, numbered_at, numbered_drop, after_drop}

@@ -1,7 +1,5 @@
 -- Worked examples of the definitions: a log that keeps three events, to which five are added.
 use Rattle.std.specs.Prelude.{◌≡◌, ℕ, List, [], ◌∷◌, true, false, take, refl}
-use Rattle.ddc_names.specs.declared.reference.RefKey.{RefKey}
-use Rattle.ddc_names.specs.declared.reference.RefSpot.{RefSpot}
 use Rattle.replication_log.specs.declared.event.Event.{Event}
 use Rattle.replication_log.specs.declared.event.EventOp.TheVariants.{Deleted}
 use Rattle.replication_log.specs.Logs.{Log, empty_log, with_event, oldest_of, can_follow}

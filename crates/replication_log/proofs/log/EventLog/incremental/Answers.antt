@@ -1,5 +1,4 @@
-use Rattle.std.proofs.Common.{◌≡◌, ℕ, ◌+◌, ◌-◌, List, take, drop, sym, ap, ◌∙◌, arith}
-use Rattle.replication_log.specs.declared.event.Event.{Event}
+use Rattle.std.proofs.Common.{◌≡◌, ℕ, ◌+◌, ◌-◌, take, drop, sym, ap, ◌∙◌, arith}
 use Rattle.replication_log.specs.Logs.{Log, oldest_of}
 use Rattle.replication_log.proofs.Numbers.{after_drop}
 use Rattle.replication_log.proofs.log.EventLog.incremental.Goals as goal
