@@ -88,7 +88,7 @@ fn a_write_or_sync_that_failed_may_be_torn_too(rt: HostRuntime) -> Result<(), Fa
     Ok(())
 }
 
-// One byte is sure, and one more behind it was written: the file ends before it or behind it, and it
+// One byte is sure, and one more after it was written: the file ends before it or after it, and it
 // may be any of the 256.
 #[test]
 fn each_image_of_a_byte_past_the_end_is_picked(rt: HostRuntime) -> Result<(), Fail> {

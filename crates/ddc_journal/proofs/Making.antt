@@ -67,7 +67,7 @@ sure_run old new file at n P sure run imp =
 pub sure_after : (old new : Meaning) (file bytes : List ℕ) (at : ℕ) → IsSure old file → IfSome old.held (λ f. IsSure new (overwritten f at bytes)) → IsSure new (overwritten file at bytes)
 sure_after old new file bytes at sure durable = at_told old.held (λ f. IsSure new (overwritten f at bytes)) file sure.held durable
 
--- the zeros in front of a short file, and the gate behind them
+-- the zeros in front of a short file, and the gate after them
 module _ (file : List ℕ) (lt : length file < 21) where
   abbrev zeros : List ℕ
   zeros = replicate {A = ℕ} 20 0
