@@ -1,4 +1,5 @@
-//! Reads a script of calls from standard input, one a line, and prints what the public calls of `blob_store` say.
+//! Reads a script of calls from standard input, one a line, and prints what the public calls of `blob_store` and of a disk
+//! in memory say.
 //!
 //! - `store UNITS`: from here on a file of so many units, all free
 //! - `disk CALL..`: from here on an empty disk whose calls with these numbers fail
@@ -7,6 +8,9 @@
 //! - `claim START UNITS`, `release START UNITS`: claims or releases it, where that may be done
 //! - `write START UNITS HEX`: writes a blob to the extent
 //! - `read START UNITS AT COUNT`: so many bytes from the extent's byte on
+//! - `put AT HEX`, `get AT COUNT`, `sync`, `len`: the calls of the disk alone
+//! - `counts`: how many calls the disk has had, its count of faults, and how many of them no list named
+//! - `image CALLS CHOICE`: all bytes of the disk after that many calls and a crash
 //! - `crash CALLS CHOICE`: from here on the disk after that many calls and a crash
 //!
 //! A line that begins with `#` is printed as it stands. `checks/extents` compares the answers with a model.
@@ -14,6 +18,7 @@
 
 mod blobs;
 mod claims;
+mod disks;
 mod words;
 
 use blob_store::BlobStore;
@@ -56,6 +61,12 @@ fn answer(alloc: Global, bench: &mut Bench, line: &str) -> Result<String, NoMemo
         "release" => claims::release_line(alloc, &mut bench.store, rest),
         "write" => blobs::write_line(alloc, &mut bench.disk, rest),
         "read" => blobs::read_line(alloc, &mut bench.disk, rest),
+        "put" => disks::put_line(alloc, &mut bench.disk, rest),
+        "get" => disks::get_line(alloc, &mut bench.disk, rest),
+        "sync" => disks::sync_line(alloc, &mut bench.disk),
+        "len" => disks::len_line(alloc, &mut bench.disk),
+        "counts" => disks::counts_line(alloc, &bench.disk),
+        "image" => disks::image_line(alloc, &bench.disk, rest),
         _ => Ok(String::from_str(alloc, line)?),
     }
 }
