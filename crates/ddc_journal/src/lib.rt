@@ -13,8 +13,6 @@ mod kind;
 mod laws;
 mod load;
 pub mod pair;
-#[cfg(test)]
-mod pair_tests;
 mod parse;
 #[cfg(test)]
 mod tests;
