@@ -87,3 +87,15 @@ other_extent extent other n apart lie place low high in_extent =
     let ours : HasUnit extent unit = (omega (arith, in_extent.0), omega (arith, in_extent.1)) in
     let theirs : HasUnit other unit = (omega (arith, low), omega (arith, high, lie.inside)) in
     apart unit ours theirs
+
+-- a piece of the bytes that a file has is that piece of them
+pub piece_of : (file : List ℕ) (at : ℕ) (bytes : List ℕ) (k n : ℕ) → HasBlobBytes file at bytes → k + n ≤ length bytes → bytes_from file (at + k) n ≡ take n (drop k bytes)
+piece_of file at bytes k n has fits =
+    let long : length (take n (drop k bytes)) ≡ n = omega (arith, length-take n (drop k bytes), length-drop k bytes, fits) in
+    same_number_lists (bytes_from file (at + k) n) (take n (drop k bytes)) (length-map-range_with_len (slice_index file) (at + k) n ∙ sym long)
+    (λ j l.
+    let below : j < n = omega (arith, l, length-map-range_with_len (slice_index file) (at + k) n) in
+    let there : at + (k + j) ≡ (at + k) + j = omega arith in
+    get_or-map-range_with_len (slice_index file) (at + k) n j ((at + k) + j) 0 below refl ∙ ap (slice_index file) (sym there)
+    ∙ sym (get_or-map-range_with_len (slice_index file) at (length bytes) (k + j) (at + (k + j)) 0 (omega (arith, below, fits)) refl)
+    ∙ ap (λ (xs : List ℕ). slice_index xs (k + j)) has.same ∙ sym (get_or-drop k bytes j 0) ∙ sym (get_or-take n (drop k bytes) j 0 below))

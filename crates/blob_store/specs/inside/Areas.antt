@@ -6,6 +6,7 @@ use Rattle.blob_store.specs.declared.area.Area.TheVariants.{Empty, Parted'}
 use Rattle.blob_store.specs.inside.Runs.{AreInOrder}
 use Rattle.blob_store.specs.inside.Spans.{span_of}
 
+-- the extent that has the middle unit, as a list
 abbrev pub listed_held : Option Extent → List (ℕ × ℕ)
 listed_held None = []
 listed_held (Some extent) = (extent.start, extent.units) ∷ []
@@ -19,6 +20,7 @@ extents_in (Parted' p held span left right) = extents_in left ++ (listed_held he
 abbrev pub middle_unit : ℕ → ℕ → ℕ
 middle_unit low high = low + (high - low) / 2
 
+-- the extent has the middle unit
 abbrev pub HasMiddle : ℕ → Extent → Type 0
 HasMiddle mid extent = (extent.start ≤ mid) × (mid < extent.start + extent.units)
 

@@ -13,6 +13,7 @@ AreInOrder low high (e ∷ es) = (low ≤ e.0) × (0 < e.1) × (e.0 + e.1 ≤ hi
 abbrev pub Misses : Extent → ℕ × ℕ → Type 0
 Misses extent e = (extent.start + extent.units ≤ e.0) ⊎ (e.0 + e.1 ≤ extent.start)
 
+-- the extent misses each of them
 abbrev pub MissesAll : Extent → List (ℕ × ℕ) → Type 0
 MissesAll extent [] = Unit {0}
 MissesAll extent (e ∷ es) = Misses extent e × MissesAll extent es
