@@ -1,7 +1,6 @@
 -- Two files are at most one pair, or have one fault.
-use Rattle.std.proofs.Common.{◌≡◌, List, ℕ, ◌≤◌, sym, ◌∙◌, subst, arith}
+use Rattle.std.proofs.Common.{◌≡◌, List, ℕ, sym, subst, arith}
 use Rattle.std.specs.Prelude.{Bool, true, false}
-use Rattle.ddc_journal.specs.Journal.{is_made, rank}
 use Rattle.ddc_journal.specs.Laws.{NotMadeIsNone, OnePair, OnePairFault, PairOrFault}
 use Rattle.ddc_journal.specs.Pairs.{pair_kind, taken, takes_second, NoneMade}
 use Rattle.ddc_journal.specs.inside.Closing.{IsUnmade}
