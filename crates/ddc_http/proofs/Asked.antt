@@ -8,7 +8,7 @@ use Rattle.ddc_protocol.specs.declared.request_form.RequestForm.TheVariants.{Put
 use Rattle.ddc_protocol.specs.Fields.{same_text}
 use Rattle.ddc_protocol.specs.Requests.{Asks, put_blob, mismatch, stores, mismatches, breaks}
 use Rattle.ddc_http.specs.declared.request.HttpFault.{HttpFault}
-use Rattle.ddc_http.specs.declared.request.HttpFault.TheVariants.{Unread, Cut, HashMismatch, NotAnObject, ReadFailed, NoMemory}
+use Rattle.ddc_http.specs.declared.request.HttpFault.TheVariants.{NotAnObject, NoMemory}
 use Rattle.ddc_http.specs.inside.Parts.{AskedAs, BreaksAs}
 
 -- a body of another hash

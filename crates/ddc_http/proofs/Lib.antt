@@ -5,3 +5,4 @@ pub mod Named
 pub mod Taken
 pub mod Targets
 pub mod Pairs
+pub mod Pieces

@@ -33,6 +33,10 @@ pub never_yet : (P Q : Type 0) (now initial : Vec ℕ Global) → HasNoHead now.
 never_yet P Q now initial none (inl h) = never_ready P initial.items h
 never_yet P Q now initial none (inr h) = never_ready P initial.items (subst (λ (v : Vec ℕ Global). HasNoRequestText v.items) h.1 (no_item-without_head now.items none))
 
+pub lacks_yet : (Q : Type 0) (now initial : Vec ℕ Global) → HasNoHead now.items → HasNoRequestText initial.items ⊎ (Q × (now ≡ initial)) → HasNoRequestText initial.items
+lacks_yet Q now initial none (inl h) = h
+lacks_yet Q now initial none (inr h) = subst (λ (v : Vec ℕ Global). HasNoRequestText v.items) h.1 (no_item-without_head now.items none)
+
 -- the first bytes are a head, and fewer than its body states follow
 pub record Lacks (bytes : List ℕ) (size : ℕ) : Type 0 where
   pub head : RequestHead

@@ -49,6 +49,11 @@ TakesRequest before after from to item = (text : List ℕ) × IsRequestText text
 abbrev pub LosesPart : Option (List ℕ) → Option (List ℕ) → Type 0
 LosesPart before left = (part : List ℕ) × Consumes before left part × HasNoRequestText part
 
+-- what was taken from a source while these bytes were held: all of it but the last piece, after them, holds no whole
+-- request
+abbrev pub TakesPieces : List ℕ → Option (List ℕ) → Option (List ℕ) → Type 0
+TakesPieces held before after = (front : List ℕ) × (last : List ℕ) × Consumes before after (front ++ last) × (length last ≤ 65536) × HasNoRequestText (held ++ front)
+
 -- what a call answered, by what stands ahead before and after it, and the places
 abbrev pub ReadsNext : Ahead → Ahead → ℕ → ℕ → Result (Option Request) HttpFault → Type 0
 ReadsNext old new from to (Ok (Some request)) = TakesRequest (bytes_of_ahead old) (bytes_of_ahead new) from to (asked_item request)

@@ -1,10 +1,10 @@
 // Requests taken from what is held and from a source.
-ghost use Rattle.std.specs.Prelude.{◌≡◌, ◌≤◌, ◌<◌, ◌+◌, ◌-◌, ◌^◌, min, length, vec_len, drop, true};
+ghost use Rattle.std.specs.Prelude.{◌≡◌, ◌⊎◌, IfOk, IsSome, ◌≤◌, ◌<◌, ◌+◌, ◌-◌, ◌^◌, min, length, vec_len, drop, true};
 ghost use Rattle.cb_fields.specs.Language.{IsNoObject};
 ghost use Rattle.ddc_protocol.specs.Requests.{HasNoHead};
 ghost use Rattle.ddc_protocol.specs.declared.request_form.RequestForm.TheVariants.{PutBlob, PutRef};
-ghost use Rattle.ddc_http.specs.Reader.{FaultsAs, HasRequestText, ReadsNext, stream_ahead};
-ghost use Rattle.ddc_http.specs.inside.Parts.{AskedAs, BodyAs, BodyAt, BreaksAs, FillsAs, HeadAt, HeadsAs};
+ghost use Rattle.ddc_http.specs.Reader.{FaultsAs, HasRequestText, ReadsNext, TakesPieces, stream_ahead};
+ghost use Rattle.ddc_http.specs.inside.Parts.{AskedAs, BodyAs, BodyAt, BreaksAs, FillsAs, FillsBy, HeadAt, HeadsAs, HoldsPieces};
 
 use crate::head::{Found, MOST_HEAD, find_head};
 use crate::request::{Ask, HttpFault, Request};
@@ -26,6 +26,7 @@ const BODY_PIECE: usize = 65_536;
 fn fill<S: Source>(source: &mut S, held: &mut Vec<u8>) -> Result<bool, HttpFault>
     requires { HasNoHead held.old.items }
     ensures gives { FillsAs (stream_ahead held.old.items (S.left source.old)) (stream_ahead held.new.items (S.left source.new)) result }
+    ensures pieces { FillsBy (stream_ahead held.old.items (S.left source.old)) (stream_ahead held.new.items (S.left source.new)) result }
     ensures grows { result ≡ Ok true → length held.old.items < length held.new.items }
     ensures faults { FaultsAs (S.faults source.old) (S.faults source.new) result }
 {
@@ -53,6 +54,8 @@ fn read_head<S: Source>(
 ) -> Result<Option<(usize, RequestForm)>, HttpFault>
     ensures gives { HeadsAs (stream_ahead held.old.items (S.left source.old)) (stream_ahead held.new.items (S.left source.new)) result }
     ensures ready { HasRequestText held.old.items → (source.new ≡ source.old) × (held.new ≡ held.old) }
+    ensures pieces { (source.new ≡ source.old) ⊎ TakesPieces held.old.items (S.left source.old) (S.left source.new) }
+    ensures found { IfOk result (λ found. IsSome found → ((source.new ≡ source.old) × (held.new ≡ held.old)) ⊎ HoldsPieces held.old.items held.new.items (S.left source.old) (S.left source.new)) }
     ensures faults { FaultsAs (S.faults source.old) (S.faults source.new) result }
 {
     'pieces: loop {
@@ -95,6 +98,7 @@ fn take_body<S: Source>(
     requires body { BodyAt held.old.items len size }
     ensures gives { BodyAs (stream_ahead held.old.items (S.left source.old)) (stream_ahead held.new.items (S.left source.new)) len size result }
     ensures ready { len + size ≤ length held.old.items → source.new ≡ source.old }
+    ensures pieces { (source.new ≡ source.old) ⊎ TakesPieces held.old.items (S.left source.old) (S.left source.new) }
     ensures faults { FaultsAs (S.faults source.old) (S.faults source.new) result }
 {
     let first = size.min(held.len() - len);
@@ -204,6 +208,7 @@ fn take_request<S: Source>(
     requires head { HeadAt held.old.items len (Some form) }
     ensures gives { ReadsNext (stream_ahead held.old.items (S.left source.old)) (stream_ahead held.new.items (S.left source.new)) place.old place.new result }
     ensures ready { HasRequestText held.old.items → source.new ≡ source.old }
+    ensures pieces { (source.new ≡ source.old) ⊎ TakesPieces held.old.items (S.left source.old) (S.left source.new) }
     ensures faults { FaultsAs (S.faults source.old) (S.faults source.new) result }
 {
     match form {
@@ -252,6 +257,7 @@ pub fn next_request<S: Source>(
 ) -> Result<Option<Request>, HttpFault>
     ensures gives { ReadsNext (stream_ahead held.old.items (S.left source.old)) (stream_ahead held.new.items (S.left source.new)) place.old place.new result }
     ensures ready { HasRequestText held.old.items → source.new ≡ source.old }
+    ensures pieces { (source.new ≡ source.old) ⊎ TakesPieces held.old.items (S.left source.old) (S.left source.new) }
     ensures faults { FaultsAs (S.faults source.old) (S.faults source.new) result }
 {
     match read_head(source, held) {

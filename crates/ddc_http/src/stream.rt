@@ -1,6 +1,6 @@
 // A reader of the requests of one stream.
-ghost use Rattle.std.specs.Prelude.{◌≡◌, [], false, IfOk};
-ghost use Rattle.ddc_http.specs.Reader.{FaultsAs, HasRequestText, ReadsNext};
+ghost use Rattle.std.specs.Prelude.{◌≡◌, ◌⊎◌, [], false, IfOk};
+ghost use Rattle.ddc_http.specs.Reader.{FaultsAs, HasRequestText, ReadsNext, TakesPieces};
 ghost use Rattle.ddc_http.specs.Stream.{EndedAs, ahead_of, source_of, held_of, place_of, has_ended};
 
 use crate::reader::next_request;
@@ -58,6 +58,7 @@ impl<'a, S: Source> RequestReader<'a, S> {
         ensures same_reference { self.new.source.ghost_name ≡ self.old.source.ghost_name }
         ensures gives { ReadsNext (ahead_of S.left self.old) (ahead_of S.left self.new) (place_of self.old) (place_of self.new) result }
         ensures ready { HasRequestText (held_of self.old) → source_of self.new ≡ source_of self.old }
+        ensures pieces { (source_of self.new ≡ source_of self.old) ⊎ TakesPieces (held_of self.old) (S.left (source_of self.old)) (S.left (source_of self.new)) }
         ensures ended { EndedAs result (has_ended self.new) }
         ensures faults { FaultsAs (S.faults (source_of self.old)) (S.faults (source_of self.new)) result }
     {

@@ -12,7 +12,7 @@ use Rattle.ddc_http.specs.declared.head.Found.TheVariants.{More, Never, Head}
 use Rattle.ddc_http.specs.declared.request.Request.{Request}
 use Rattle.ddc_http.specs.declared.request.HttpFault.{HttpFault}
 use Rattle.ddc_http.specs.declared.request.HttpFault.TheVariants.{Unread, Cut, HashMismatch, NotAnObject, ReadFailed, NoMemory}
-use Rattle.ddc_http.specs.Reader.{Ahead, bytes_of_ahead, asked_item, LosesPart}
+use Rattle.ddc_http.specs.Reader.{Ahead, bytes_of_ahead, asked_item, LosesPart, TakesPieces}
 
 -- the bytes begin with a head of this length, which asks for this
 pub record HeadAt (bytes : List ℕ) (len : ℕ) (found : Option RequestForm) : Type 0 where
@@ -56,6 +56,16 @@ FillsAs old new (Ok false) = Keeps (bytes_of_ahead old) (bytes_of_ahead new) × 
 FillsAs old new (Err ReadFailed) = Keeps (bytes_of_ahead old) (bytes_of_ahead new) × HasNoRequestText new.held
 FillsAs old new (Err NoMemory) = ⊤
 FillsAs old new (Err other) = ⊥
+
+-- the same where all that was taken is held now
+abbrev pub HoldsPieces : List ℕ → List ℕ → Option (List ℕ) → Option (List ℕ) → Type 0
+HoldsPieces held now before after =
+    (front : List ℕ) × (last : List ℕ) × (now ≡ held ++ (front ++ last)) × Consumes before after (front ++ last) × (length last ≤ 65536) × HasNoRequestText (held ++ front)
+
+-- what the filling takes, by its answer
+abbrev pub FillsBy : Ahead → Ahead → Result Bool HttpFault → Type 0
+FillsBy old new (Ok true) = HoldsPieces old.held new.held old.left new.left
+FillsBy old new other = TakesPieces old.held old.left new.left
 
 -- the head at the front of what is held, or why there is none
 abbrev pub HeadsAs : Ahead → Ahead → Result (Option (ℕ × RequestForm)) HttpFault → Type 0

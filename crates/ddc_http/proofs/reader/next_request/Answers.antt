@@ -1,8 +1,9 @@
-use Rattle.std.proofs.Common.{◌∙◌, ℕ, sym, subst}
+use Rattle.std.proofs.Common.{◌∙◌, ℕ, refl, sym, subst}
 use Rattle.std.specs.Prelude.{Vec}
 use Rattle.std.specs.declared.alloc.Global.{Global}
 use Rattle.ddc_http.specs.Reader.{HasRequestText, stream_ahead}
 use Rattle.ddc_http.proofs.Taken.{kept-reads, faults-from}
+use Rattle.ddc_http.proofs.Pieces.{body-takes}
 use Rattle.ddc_http.proofs.reader.next_request.Goals as goal
 
 pub returns-in-Ok-Some-clause-gives : goal.returns-in-Ok-Some-clause-gives
@@ -22,3 +23,8 @@ returns-in-Ok-Some-clause-ready g c = λ has.
     let same = c.read_head.ensures.ready has in
     let P : Vec ℕ Global → Type 0 = λ v. HasRequestText v.items in
     c.take_request.ensures.ready (subst P (sym same.1) has) ∙ same.0
+
+pub returns-in-Ok-Some-clause-pieces : goal.returns-in-Ok-Some-clause-pieces
+returns-in-Ok-Some-clause-pieces g c =
+    body-takes g.S.Source.left c.args.source.now c.read_head.new.source c.take_request.new.source c.args.held.now c.read_head.new.held ((rw c.in-Ok-Some.field-0-is at c.in-Ok-Some.ensures.found) refl)
+    c.take_request.ensures.pieces
