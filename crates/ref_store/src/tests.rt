@@ -68,6 +68,11 @@ fn a_table_is_a_map_from_names_to_slots(rt: HostRuntime) -> Result<(), Fail> {
     Ok(())
 }
 
+// The first reference, or the one after another.
+fn next_of(table: &RefTable, after: Option<RefName>) -> Option<(RefName, Slot)> {
+    table.next(after.as_ref())
+}
+
 #[test]
 fn the_references_come_one_after_another(rt: HostRuntime) -> Result<(), Fail> {
     let table = table_of(rt.alloc())?;
@@ -83,11 +88,13 @@ fn the_references_come_one_after_another(rt: HostRuntime) -> Result<(), Fail> {
         ("ue50", "a", 9, true, 90),
     ] {
         let name = name_of(space, bucket, key)?;
-        let next = table.next(after.as_ref());
-        assert_eq!(rt; next, Some((name, slot_of(key, finalised, seen))));
+        assert_eq!(rt;
+            next_of(&table, after),
+            Some((name, slot_of(key, finalised, seen)))
+        );
         after = Some(name);
     }
-    assert_eq!(rt; table.next(after.as_ref()), None);
+    assert_eq!(rt; next_of(&table, after), None);
     Ok(())
 }
 
