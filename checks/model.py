@@ -688,7 +688,7 @@ def opened(data):
 
 # ---- replies
 
-PHRASES = {200: 'OK', 400: 'Bad Request', 404: 'Not Found', 409: 'Conflict', 500: 'Internal Server Error', 507: 'Insufficient Storage'}
+PHRASES = {200: 'OK', 400: 'Bad Request', 404: 'Not Found', 409: 'Conflict', 500: 'Internal Server Error', 503: 'Service Unavailable', 507: 'Insufficient Storage'}
 
 
 def reply(status, kind, body, close, named=None):

@@ -15,7 +15,7 @@ leaves-append (suc k) b d n h =
     let l : length (drop 1024 b) ≡ length b - 1024 = length-drop 1024 b in
     rw (take-append-le 1024 b d (omega arith), drop-append-le 1024 b d (omega arith), leaves-append k (drop 1024 b) d (n + 1) (omega arith)) refl
 
--- behind m
+-- after m
 pub drop_behind : (m d : List ℕ) (i j : ℕ) → i ≡ length m + j → drop i (m ++ d) ≡ drop j d
 drop_behind m d i j e =
     let a : drop (length m) (m ++ d) ≡ d = drop-append-le (length m) m d (omega arith) ∙ ap (λ (r : List ℕ). r ++ d) (drop_all (length m) m (omega arith)) in
@@ -51,7 +51,7 @@ leaf_filled count buffer used m d full x len rest fits ef ex =
     leaves_next count (m ++ d) x (ex ∙ ap (λ (r : List ℕ). chunk_value r count 0) (sym one))
     ∙ ap (λ (r : List (List ℕ)). r ++ x ∷ []) (leaves-append count m d 0 (omega arith))
 
--- a whole chunk of d behind m is the next leaf
+-- a whole chunk of d after m is the next leaf
 pub leaf_behind : (count k : ℕ) (m d x : List ℕ) → 1024 * count ≡ length m → x ≡ chunk_value (take 1024 (drop (1024 * k) d)) (count + k) 0
     → leaves (count + (k + 1)) (m ++ d) 0 ≡ leaves (count + k) (m ++ d) 0 ++ x ∷ []
 leaf_behind count k m d x len ex =
@@ -59,7 +59,7 @@ leaf_behind count k m d x len ex =
     let at : drop (1024 * (count + k)) (m ++ d) ≡ drop (1024 * k) d = drop_behind m d (1024 * (count + k)) (1024 * k) (omega arith) in
     rw n (leaves_next (count + k) (m ++ d) x (ex ∙ ap (λ (r : List ℕ). chunk_value (take 1024 r) (count + k) 0) (sym at)))
 
--- the tail of d behind m is in the buffer
+-- the tail of d after m is in the buffer
 pub IsHeld_tail : (levels : List (List ℕ)) (count k n j u : ℕ) (buffer m d ys : List ℕ) → n ≡ count + k → 1024 * count ≡ length m → 1024 * k < length d
     → Holds levels n (leaves (count + k) (m ++ d) 0) → ys ≡ drop (1024 * k) d → u ≡ length d - 1024 * k → IsHeld levels n (ys ++ post_of 0 j buffer) u (m ++ d)
 IsHeld_tail levels count k n j u buffer m d ys en len below h e eu =

@@ -113,7 +113,7 @@ one_value [] v l e = absurd (omega arith)
 one_value (y ∷ []) v l e = ap (λ (r : List ℕ). r ∷ []) e
 one_value (y ∷ z ∷ ys) v l e = absurd (omega arith)
 
--- behind a multiple of 2 ^ k values the tree over 2 ^ k more is the carry at level k
+-- after a multiple of 2 ^ k values the tree over 2 ^ k more is the carry at level k
 pub Carries_subtree : (k q : ℕ) (xs ys : List (List ℕ)) (v : List ℕ) → length xs ≡ q * 2 ^ k → length ys ≡ 2 ^ k → joined k ys 0 ≡ v → Carries k xs ys v
 Carries_subtree zero q xs ys v lx ly e = record {
   at = rw (pairs_at_first, pairs_at_first, one_value ys v (omega (arith, ly)) e) refl;

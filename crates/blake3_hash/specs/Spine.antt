@@ -14,7 +14,7 @@ joined (suc d) xs flag =
     if nat_le (length xs) (2 ^ d) then joined d xs flag
     else parent_value (joined d (take (2 ^ d) xs) 0) (joined d (drop (2 ^ d) xs) 0) flag
 
--- the root over the chunks with the values xs, and the chunk with the bytes `rest` behind them
+-- the root over the chunks with the values xs, and the chunk with the bytes `rest` after them
 unfoldable pub spine_root : List (List ℕ) → List ℕ → List ℕ
 spine_root [] rest = chunk_value rest 0 8
 spine_root (x ∷ xs) rest =

@@ -44,7 +44,7 @@ impl Hasher {
         }
     }
 
-    /// Feeds the bytes behind those that were fed before.
+    /// Feeds the bytes after those that were fed before.
     pub fn update(&mut self, bytes: &[u8])
         requires { fed_length self.old + length bytes.now < 2 ^ 64 }
         ensures length { fed_length self.new ≡ fed_length self.old + length bytes.now }
@@ -75,7 +75,7 @@ impl Hasher {
     }
 }
 
-// Takes in bytes behind whole chunks: all but the last chunk go on the spine, and it goes to the front of the buffer.
+// Takes in bytes after whole chunks: all but the last chunk go on the spine, and it goes to the front of the buffer.
 // Gives the last chunk's length.
 fn absorb(spine: &mut Spine, buffer: &mut [u8; 1024], bytes: &[u8]) -> usize
     requires some { 1 ≤ length bytes.now }

@@ -6,7 +6,7 @@ use Rattle.std.specs.Simd.Lanes.{chunk, digits_l, number_l, zip2}
 use Rattle.std.proofs.lemmas.Simd.{below_from_Fits, chunk-fits, get_or-chunk, get_or_wider, length-chunk}
 use Rattle.std.proofs.lemmas.List.{take_all}
 use Rattle.tree_hash.specs.TreeHash.{word_at}
-use Rattle.blake3_lanes.specs.Lanes.{no_words8}
+use Rattle.blake3_lanes.specs.inside.Lanes.{no_words8}
 use Rattle.blake3_lanes.proofs.WordBytes.{four_bytes}
 
 pub below_eight : (P : ℕ → Type 0) → P 0 → P 1 → P 2 → P 3 → P 4 → P 5 → P 6 → P 7 → (j : ℕ) → j < 8 → P j

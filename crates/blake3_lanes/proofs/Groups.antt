@@ -55,11 +55,11 @@ leaves_group count m rest rows at e =
     leaves_add count 8 m 0
     ∙ ap (λ (r : List (List ℕ)). leaves count m 0 ++ r) (rw (at, z) refl ∙ sym (leaves_within 8 rest count) ∙ sym e)
 
--- eight whole chunks of d behind m are the next eight leaves
-pub group_behind : (count k : ℕ) (m d : List ℕ) (rows : List (List ℕ)) → 1024 * count ≡ length m
+-- eight whole chunks of d after m are the next eight leaves
+pub group_after : (count k : ℕ) (m d : List ℕ) (rows : List (List ℕ)) → 1024 * count ≡ length m
     → rows ≡ leaves 8 (take 8192 (drop (8192 * k) d)) (count + 8 * k)
     → leaves (count + 8 * (k + 1)) (m ++ d) 0 ≡ leaves (count + 8 * k) (m ++ d) 0 ++ rows
-group_behind count k m d rows len e =
+group_after count k m d rows len e =
     let n : count + 8 * (k + 1) ≡ count + 8 * k + 8 = omega arith in
     rw n (leaves_group (count + 8 * k) (m ++ d) (drop (8192 * k) d) rows (drop_behind m d (1024 * (count + 8 * k)) (8192 * k) (omega arith)) e)
 

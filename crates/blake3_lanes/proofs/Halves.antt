@@ -1,7 +1,7 @@
 -- A round by halves: G on four columns, or diagonals, side by side.
 use Rattle.std.proofs.Common.{◌≡◌, ℕ, ◌+◌, List, [], ◌∷◌, length, slice_index, arith, refl}
 use Rattle.tree_hash.specs.TreeHash.{half_mix, mix}
-use Rattle.blake3_lanes.specs.Lanes.{mix_columns, mix_diagonals}
+use Rattle.blake3_lanes.specs.inside.Lanes.{mix_columns, mix_diagonals}
 
 empty_list : (P : List ℕ → Type 0) → P [] → (xs : List ℕ) → length xs ≡ 0 → P xs
 empty_list P p [] l = p

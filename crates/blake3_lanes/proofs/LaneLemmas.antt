@@ -6,7 +6,7 @@ use Rattle.std.specs.Simd.Lanes.{zip2}
 use Rattle.std.proofs.lemmas.Simd.{get_or-chunk}
 use Rattle.std.proofs.lemmas.List.{append-nil, drop-drop, drop-take, length-drop, length-take-le, take-take, take_all}
 use Rattle.tree_hash.specs.TreeHash.{block_words, chunk_after, chunk_value, compress_words, start_flag, word_at}
-use Rattle.blake3_lanes.specs.Lanes.{lane, no_words}
+use Rattle.blake3_lanes.specs.inside.Lanes.{lane, no_words}
 
 pub lane_set : (j : ℕ) (v : List (List ℕ)) (i : ℕ) (x : List ℕ) (y : ℕ) → slice_index x j ≡ y → lane j (slice_set v i x) ≡ slice_set (lane j v) i y
 lane_set j [] i x y e = refl

@@ -6,7 +6,7 @@ use Rattle.std.specs.Simd.Lanes.{Each1, chunk, digits_l, number_l, pick_l}
 use Rattle.std.proofs.lemmas.Simd.{swz_l, Each1-get_or, below_from_Fits, chunk-fits, get_or-chunk, get_or_narrower, get_or_wider, length-chunk}
 use Rattle.std.proofs.lemmas.List.{take_all}
 use Rattle.tree_hash.specs.TreeHash.{word_at}
-use Rattle.blake3_lanes.specs.Lanes.{one_byte, two_bytes}
+use Rattle.blake3_lanes.specs.inside.Lanes.{one_byte, two_bytes}
 use Rattle.blake3_lanes.proofs.LaneLemmas.{below_four, four_lanes}
 
 -- ---- a load

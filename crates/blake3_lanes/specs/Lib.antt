@@ -1,2 +1,2 @@
-pub mod Lanes
 pub mod WideFed
+pub mod inside

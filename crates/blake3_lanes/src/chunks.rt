@@ -2,7 +2,7 @@
 ghost use Rattle.std.specs.Prelude.{◌≡◌, ℕ, ◌+◌, ◌-◌, ◌*◌, ◌/◌, ◌%◌, ◌^◌, ◌<◌, ◌≤◌, List, [], length, take, drop, slice_index, slice_index_or};
 ghost use Rattle.tree_hash.specs.TreeHash.{block_words, chunk_value, start_flag, word_at};
 ghost use Rattle.blake3_hash.specs.Spine.{leaves};
-ghost use Rattle.blake3_lanes.specs.Lanes.{lane};
+ghost use Rattle.blake3_lanes.specs.inside.Lanes.{lane};
 
 use crate::eight::chunks::in_eights;
 use crate::kernel::{compress, rows, start_values};
@@ -86,7 +86,8 @@ fn columns(input: &[u8], at: usize) -> [u32x4; 16]
 // CHUNK_START for the first block of a chunk.
 #[inline(always)]
 pub(crate) fn start_flag(k: usize) -> u32
-    ensures { result ≡ start_flag k }
+    ensures value { result ≡ start_flag k }
+    ensures small { result ≤ 1 }
 {
     if k == 0 { 1 } else { 0 }
 }

@@ -1,15 +1,15 @@
 // The compression of four blocks side by side (BLAKE3 specification, section 2.2).
 ghost use Rattle.std.specs.Prelude.{◌≡◌, ℕ, ◌+◌, ◌*◌, ◌/◌, ◌%◌, ◌^◌, ◌<◌, List, [], slice_index, slice_index_or};
 ghost use Rattle.tree_hash.specs.TreeHash.{compress_words, folded, half_mix, iv, permute, round, start_state};
-ghost use Rattle.blake3_lanes.specs.Lanes.{lane, mix_columns, mix_diagonals};
+ghost use Rattle.blake3_lanes.specs.inside.Lanes.{lane, mix_columns, mix_diagonals};
 
 use crate::vectors::{Hidden, add, splat, xor, xor_rotate};
 use std::simd::prelude::*;
 
 #[inline(always)]
-fn half_mix(
+pub(crate) fn half_mix<const N: usize>(
     hidden: &Hidden,
-    v: &mut [u32x4; 16],
+    v: &mut [u32x4; N],
     a: usize,
     b: usize,
     c: usize,
@@ -18,10 +18,10 @@ fn half_mix(
     r: u32,
     s: u32,
 )
-    requires a_in { a < 16 }
-    requires b_in { b < 16 }
-    requires c_in { c < 16 }
-    requires d_in { d < 16 }
+    requires a_in { a < N }
+    requires b_in { b < N }
+    requires c_in { c < N }
+    requires d_in { d < N }
     requires r_low { 0 < r }
     requires r_high { r < 32 }
     requires s_low { 0 < s }

@@ -1,7 +1,9 @@
-//! BLAKE3 in hash mode (BLAKE3 specification), eight chunks at a time by `std::simd`. Each value is that of
+//! BLAKE3 in hash mode (BLAKE3 specification) by `std::simd`: eight chunks at a time, or one alone. Each value is that of
 //! `blake3_hash`. No call takes memory.
 #![tactic(auto)]
 
+mod block;
+mod chunk;
 mod chunks;
 mod eight;
 mod kernel;

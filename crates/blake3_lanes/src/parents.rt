@@ -2,7 +2,7 @@
 ghost use Rattle.std.specs.Prelude.{◌≡◌, ℕ, ◌+◌, ◌<◌, ◌≤◌, ◌++◌, List, [], slice_index, slice_index_or};
 ghost use Rattle.tree_hash.specs.TreeHash.{eight, parent_value};
 ghost use Rattle.blake3_hash.specs.Spine.{joined};
-ghost use Rattle.blake3_lanes.specs.Lanes.{lane};
+ghost use Rattle.blake3_lanes.specs.inside.Lanes.{lane};
 
 use crate::kernel::{compress, rows, start_values};
 use crate::vectors::{Hidden, splat};

@@ -5,11 +5,13 @@ ghost use Rattle.blake3_hash.specs.Spine.{IsPushed, leaves};
 ghost use Rattle.blake3_hash.specs.Fed.{IsHeld};
 ghost use Rattle.blake3_lanes.specs.WideFed.{IsWideFed, wide_length};
 
+use crate::chunk::flagged_chunk;
 use crate::chunks::{chunks8, chunks8_before};
 use crate::parents::{halves8, subtree8};
 use crate::vectors::Hidden;
-use blake3_hash::{Spine, chunk_value, parent_value};
+use blake3_hash::{Spine, parent_value};
 use std::marker::Model;
+use tree_hash::bytes_of;
 
 /// The hash of a message that is fed in pieces, computed eight chunks at a time. A clause speaks of the bytes fed by
 /// `IsWideFed`, and of their number by `wide_length`.
@@ -48,7 +50,7 @@ impl WideHasher {
         }
     }
 
-    /// Feeds the bytes behind those that were fed before.
+    /// Feeds the bytes after those that were fed before.
     pub fn update(&mut self, bytes: &[u8])
         requires { wide_length self.old + length bytes.now < 2 ^ 64 }
         ensures length { wide_length self.new ≡ wide_length self.old + length bytes.now }
@@ -78,6 +80,9 @@ impl WideHasher {
     pub fn finish(&self) -> [u8; 32]
         ensures { (m : List ℕ) → IsWideFed self.now m → result ≡ blake3 m }
     {
+        if self.chunks == 0 && self.used <= 1024 {
+            return hash_of_chunk(&self.buffer[..self.used]);
+        }
         let mut spine = self.spine;
         let whole = self.used.saturating_sub(1) / 1024;
         push_front(
@@ -87,6 +92,14 @@ impl WideHasher {
         );
         spine.finish(&self.buffer[1024 * whole..self.used])
     }
+}
+
+// The hash of at most one chunk.
+fn hash_of_chunk(bytes: &[u8]) -> [u8; 32]
+    requires { length bytes.now ≤ 1024 }
+    ensures { result ≡ blake3 bytes.now }
+{
+    bytes_of(&flagged_chunk(&Hidden::new(), bytes, 0, 8))
 }
 
 // How many chunks the groups of eight have that come before the last 1 to 8,192 of `len` bytes.
@@ -117,9 +130,11 @@ fn front_values(buffer: &[u8; 8192], number: u64, whole: usize) -> [[u32; 8]; 8]
     if whole >= 4 {
         return chunks8(buffer, number);
     }
+    let hidden = Hidden::new();
     let mut values = [[0; 8]; 8];
     'plain: for k in 0..whole {
-        values[k] = chunk_value(&buffer[1024 * k..1024 * k + 1024], number + k as u64);
+        let chunk = &buffer[1024 * k..1024 * k + 1024];
+        values[k] = flagged_chunk(&hidden, chunk, number + k as u64, 0);
     }
     values
 }
@@ -148,7 +163,7 @@ fn eight_chunks(bytes: &[u8], at: usize) -> &[u8]
     }
 }
 
-// The values of the eight chunks from byte 8,192 `k` on; those behind them are read meanwhile.
+// The values of the eight chunks from byte 8,192 `k` on; those after them are read meanwhile.
 fn group_values(hidden: &Hidden, bytes: &[u8], number: u64, k: usize) -> [[u32; 8]; 8]
     requires inside { 8192 * k + 8192 ≤ length bytes.now }
     requires number { 1024 * number + length bytes.now < 2 ^ 64 }
@@ -186,7 +201,7 @@ fn push_groups(spine: &mut Spine, number: u64, bytes: &[u8], groups: usize)
     spine.push_subtree(&parent_value(&halves[0], &halves[1]), 3);
 }
 
-// Takes in bytes behind `number` whole chunks: all but the last 1 to 8,192 go on the spine, and these go to the front
+// Takes in bytes after `number` whole chunks: all but the last 1 to 8,192 go on the spine, and these go to the front
 // of the buffer. Gives their number.
 fn absorb(spine: &mut Spine, buffer: &mut [u8; 8192], number: u64, bytes: &[u8]) -> usize
     requires number { number ≡ spine.old.count }

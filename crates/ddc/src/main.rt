@@ -10,7 +10,7 @@ use std::env;
 use std::io::ErrorKind;
 use std::process::ExitCode;
 
-// The words behind the program's name. Where one is no text, the words fit no form, as none do.
+// The words after the program's name. Where one is no text, the words fit no form, as none do.
 fn words_of(rt: &HostRuntime, alloc: Global) -> Result<Vec<String>, AllocError> {
     let mut words = Vec::new(alloc);
     let all = match env::args(rt) {

@@ -205,7 +205,11 @@ impl<D: Disk> Book<D> {
             None => (0, 0),
             Some(blob) => (1, blob.links.len() as u64),
         };
-        if passes(self.tables.index.space_count(), spaces, limits.spaces as u64) {
+        if passes(
+            self.tables.index.space_count(),
+            spaces,
+            limits.spaces as u64,
+        ) {
             return full_of(What::Spaces, limits.spaces as u64);
         }
         if passes(self.tables.index.blob_count(), blobs, limits.blobs) {

@@ -9,17 +9,21 @@ use Rattle.ddc_disk.specs.declared.devices.Devices.{Devices}
 use Rattle.ddc_journal.specs.Journal.{is_made}
 use Rattle.ddc_model.specs.Limits.{standard}
 use Rattle.ddc_model.specs.Sound.{Cache, empty_cache}
-use Rattle.ddc_book.specs.Opening.{Opens, OpenFaultOf}
-use Rattle.ddc_book.specs.Loading.{AsBefore, Creates, IsLoaded, IsCreated}
-use Rattle.ddc_book.specs.View.{BookView, line_of}
-use Rattle.ddc_book.specs.declared.fault.OpenFault.{OpenFault}
-use Rattle.ddc_book.specs.declared.fault.OpenFault.TheVariants.{NotMade, Corrupt, BadVersion, Unsound, DiskFailed, NoMemory}
-use Rattle.ddc_command.specs.declared.end.Ended.TheVariants.{Unopened, Uncreated}
-use Rattle.ddc_command.specs.Words.{init, form_of}
-use Rattle.ddc_command.specs.Top.{IsInit, IsEmptyUnmade, FailsToOpen, Finds, is_unmade}
-use Rattle.ddc_command.proofs.Writing.{rose_later}
+use Rattle.ddc_opening.specs.Opening.{OpensAs, OpenFaultOf}
+use Rattle.ddc_opening.specs.Loading.{AsBefore, Creates}
+use Rattle.ddc_book.specs.Loading.{IsLoaded, IsCreated}
+use Rattle.ddc_book.specs.View.{BookView, book_line}
+use Rattle.ddc_opening.specs.declared.fault.OpenFault.{OpenFault}
+use Rattle.ddc_opening.specs.declared.fault.OpenFault.TheVariants.{NotMade, Corrupt, BadVersion, Unsound, DiskFailed, NoMemory}
+use Rattle.ddc_service.specs.Effects.{Effect, Bytes}
+use Rattle.ddc_service.proofs.Writing.{rose_later}
+use Rattle.ddc_command.specs.declared.command.Command.TheVariants.{Init}
+use Rattle.ddc_command.specs.declared.end.CommandEnd.TheVariants.{Unopened, Uncreated}
+use Rattle.ddc_command.specs.Words.{command_of}
+use Rattle.ddc_command.specs.Ends.{scene, IsEmptyUnmade}
+use Rattle.ddc_command.specs.inside.Parts.{FailsToOpen, OpensOrMakes, is_unmade, untouched}
 use Rattle.ddc_command.proofs.Statuses.{open_not_1}
-use Rattle.ddc_command.proofs.Unopened.{unopens, some_form}
+use Rattle.ddc_command.proofs.Unopened.{unopens, some_command}
 
 -- ---- what a file says that holds no store
 
@@ -49,15 +53,15 @@ module _ {D : Type 0} (tells : Bool) (meaning : D → Meaning) (old : Devices D)
 
   -- what an open book may leave
   abbrev Left : Cache → Images → Type 0
-  Left cache = λ im. Opens standard im cache ⊎ IsEmptyUnmade cache im
+  Left cache = λ im. OpensAs standard im cache ⊎ IsEmptyUnmade cache im
 
-  pub finds_loaded : (book : BookView D) → IsLoaded meaning old standard book → Finds tells meaning old book
+  pub finds_loaded : (book : BookView D) → IsLoaded meaning old standard book → OpensOrMakes tells meaning old book
   finds_loaded book loaded = record {
     held = inl (loaded.held, loaded.whole);
     limits_are = loaded.limits_are;
     steps = loaded.steps;
     later = loaded.as_before.later;
-    any_moment = λ told starts. weaker before (line_of meaning book) (IsImage before) (Left book.cache) loaded.as_before.since starts;
+    any_moment = λ told starts. weaker before (book_line meaning book) (IsImage before) (Left book.cache) loaded.as_before.since starts;
   }
 
   -- the store can't be opened
@@ -65,26 +69,11 @@ module _ {D : Type 0} (tells : Bool) (meaning : D → Meaning) (old : Devices D)
       → ((fault ≡ DiskFailed) × Rose (devices_faults meaning old) (devices_faults meaning new)) ⊎ IfSome (meaning old.first).held (λ file. OpenFaultOf standard file fault)
       → (fault ≡ DiskFailed → Rose (devices_faults meaning old) (devices_faults meaning new)) → FailsToOpen tells meaning old new (Unopened fault)
   fails_unopened new fault off back is cause = record {
-    ends = λ written writes space ttl pin words hour input reads reads_now form. (
-      some_form (form_of words) (init space ttl pin) form,
-      (refl, refl),
+    ends = λ bytes faults space ttl pin words hour source still form. (
+      some_command (command_of words) (Init space ttl pin) form,
+      (still, (refl, refl)),
       back,
-      unopens
-          (record {
-            tells = tells;
-            meaning = meaning;
-            old = old;
-            new = new;
-            hour = hour;
-            input = input;
-            left = input;
-            from = written;
-            to = written;
-            reads_before = reads;
-            reads_now = reads_now;
-            writes_before = writes;
-            writes_now = writes;
-          }) (form_of words) fault is cause (λ e. absurd (not_unmade fault off e)),
+      unopens (scene tells meaning old new hour source (untouched bytes faults)) (command_of words) fault is cause (λ e. absurd (not_unmade fault off e)),
     );
     not_usage = open_not_1 fault;
   }
@@ -101,23 +90,23 @@ module _ {D : Type 0} (tells : Bool) (meaning : D → Meaning) (old : Devices D)
     image_before im now = back.since.each between.moment im back.since.later now
 
     abbrev Making : Timeline Images → Images → Type 0
-    Making line = λ im. IsImage line im ⊎ (is_made im.first ≡ false) ⊎ Opens standard im (empty_cache standard)
+    Making line = λ im. IsImage line im ⊎ (is_made im.first ≡ false) ⊎ OpensAs standard im (empty_cache standard)
 
-    pub finds_created : (book : BookView D) → ((d : D) → IsTrue tells → IsSome (meaning d).held) → IsCreated meaning mid standard book → Finds tells meaning old book
+    pub finds_created : (book : BookView D) → ((d : D) → IsTrue tells → IsSome (meaning d).held) → IsCreated meaning mid standard book → OpensOrMakes tells meaning old book
     finds_created book told created = record {
       held = inr (unmade, created.cache);
       limits_are = ap (λ c. c.index.limits) created.cache;
       steps = created.steps;
       later = let a = back.later in let b = created.creates.later in omega arith;
       any_moment = λ tell starts.
-          let P : Option (List ℕ) → Type 0 = λ held. IfSome held (λ file. is_made file ≡ false → EachSince between (line_of meaning book) (Making between)) in
-          let making = at_unmade (meaning old.first).held (EachSince between (line_of meaning book) (Making between)) (told old.first tell) unmade (subst P back.first created.creates.each) in
-          let Q : Cache → Type 0 = λ c. EachSince between (line_of meaning book) (Left c) in
-          let R : Cache → Images → Type 0 = λ c im. Opens standard im c ⊎ IsEmptyUnmade c im in
+          let P : Option (List ℕ) → Type 0 = λ held. IfSome held (λ file. is_made file ≡ false → EachSince between (book_line meaning book) (Making between)) in
+          let making = at_unmade (meaning old.first).held (EachSince between (book_line meaning book) (Making between)) (told old.first tell) unmade (subst P back.first created.creates.each) in
+          let Q : Cache → Type 0 = λ c. EachSince between (book_line meaning book) (Left c) in
+          let R : Cache → Images → Type 0 = λ c im. OpensAs standard im c ⊎ IsEmptyUnmade c im in
           let first = weaker before between (IsImage before) (Left book.cache) back.since starts in
-          let last = weaker between (line_of meaning book) (Making between) (Left book.cache) making
-          (λ im. ⊎_elim (λ now. starts im (image_before im now)) (⊎_elim (λ none. inr (created.cache, none)) (λ opens. let S : Cache → Type 0 = λ c. Opens standard im c in inl (subst S (sym created.cache) opens)))) in
-          then_runs before between (line_of meaning book) (Left book.cache) (Left book.cache) first last (λ im left. left);
+          let last = weaker between (book_line meaning book) (Making between) (Left book.cache) making
+          (λ im. ⊎_elim (λ now. starts im (image_before im now)) (⊎_elim (λ none. inr (created.cache, none)) (λ opens. let S : Cache → Type 0 = λ c. OpensAs standard im c in inl (subst S (sym created.cache) opens)))) in
+          then_runs before between (book_line meaning book) (Left book.cache) (Left book.cache) first last (λ im left. left);
     }
 
     creates_from : (new : Devices D) → Creates meaning mid standard new → Creates meaning old standard new
@@ -136,12 +125,17 @@ module _ {D : Type 0} (tells : Bool) (meaning : D → Meaning) (old : Devices D)
     pub fails_uncreated : (new : Devices D) (why : OpenFault) → Creates meaning mid standard new
         → ((why ≡ DiskFailed) × Rose (devices_faults meaning mid) (devices_faults meaning new)) ⊎ (why ≡ NoMemory) → FailsToOpen tells meaning old new (Uncreated why)
     fails_uncreated new why creates cause = record {
-      ends = λ written writes space ttl pin words hour input reads reads_now form. (
-        subst IsInit (sym form) tt,
-        (refl, refl),
-        unmade,
-        creates_from new creates,
-        ⊎_elim (λ failed. inl (failed.0, rose_later (devices_faults meaning old) (devices_faults meaning mid) (devices_faults meaning new) back.later failed.1)) (λ memory. inr memory) cause,
+      ends = λ bytes faults space ttl pin words hour source still form. (
+        space,
+        ttl,
+        pin,
+        form,
+        (
+          (still, (refl, refl)),
+          unmade,
+          creates_from new creates,
+          ⊎_elim (λ failed. inl (failed.0, rose_later (devices_faults meaning old) (devices_faults meaning mid) (devices_faults meaning new) back.later failed.1)) (λ memory. inr memory) cause,
+        ),
       );
       not_usage = open_not_1 why;
     }

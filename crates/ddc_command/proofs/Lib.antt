@@ -1,14 +1,5 @@
-pub mod Writing
-pub mod Answering
-pub mod Turning
-pub mod Bounds
-pub mod Runs
-pub mod Changing
-pub mod Crashes
 pub mod Noting
-pub mod Numbers
 pub mod Statuses
-pub mod Opened
 pub mod Unopened
 pub mod Replaying
 pub mod Spaces

@@ -19,13 +19,15 @@ use Rattle.ddc_model.specs.Limits.{standard}
 use Rattle.ddc_model.specs.Sound.{Cache}
 use Rattle.ddc_model.specs.Commands.{SpaceAs, changed}
 use Rattle.ddc_model.specs.History.{Past, broken_by, past_of, WithRoom}
-use Rattle.ddc_book.specs.Calls.{Gives, GoesOn, Becomes}
-use Rattle.ddc_book.specs.Opening.{Opens}
-use Rattle.ddc_book.specs.View.{BookView, limits_of, line_of, faults_of}
-use Rattle.ddc_command.specs.declared.end.Ended.TheVariants.{Unmade, Made, Untold}
-use Rattle.ddc_command.specs.Top.{Scene, IsEmptyUnmade, Makes, LeavesAfter, Unmakes, EndsInit, Finds, made_line}
-use Rattle.ddc_command.proofs.Writing.{rose_later}
-use Rattle.ddc_command.proofs.Opened.{nothing_yet, is_unbroken}
+use Rattle.ddc_book.specs.Calls.{CommandGives, GoesOn, Becomes}
+use Rattle.ddc_opening.specs.Opening.{OpensAs}
+use Rattle.ddc_book.specs.View.{BookView, limits_of, book_line, book_faults}
+use Rattle.ddc_service.specs.Effects.{Effect, Bytes, Rises, MeetsNoFault, IsUntouched}
+use Rattle.ddc_service.proofs.Writing.{rose_later}
+use Rattle.ddc_command.specs.declared.end.CommandEnd.TheVariants.{Unmade, Made, Untold}
+use Rattle.ddc_command.specs.Ends.{Scene, scene, IsEmptyUnmade, AsksSpace, MakesSpace, LeavesAfter, LacksSpace, made_line}
+use Rattle.ddc_command.specs.inside.Parts.{EndsInit, OpensOrMakes, untouched}
+use Rattle.ddc_service.proofs.Opened.{nothing_yet, is_unbroken}
 use Rattle.ddc_command.proofs.Spaces.{with_space, space_made, space_refused, IsFull}
 
 unbroken_more : (steps : List Step) (entry : Entry) → broken_by steps ≡ None → broken_by (steps ++ Change entry ∷ []) ≡ None
@@ -42,16 +44,16 @@ becomes_unbroken : {D : Type 0} (book next : BookView D) (made : Option Entry) �
 becomes_unbroken book next None unbroken same = ap (λ b. broken_by b.steps) same ∙ unbroken
 becomes_unbroken book next (Some entry) unbroken h = ap broken_by h.1 ∙ unbroken_more book.steps entry unbroken
 
-module _ {D : Type 0} (tells : Bool) (meaning : D → Meaning) (old : Devices D) (book : BookView D) (space : List ℕ) (ttl pin : ℕ) (found : Finds tells meaning old book) where
+module _ {D : Type 0} (tells : Bool) (meaning : D → Meaning) (old : Devices D) (book : BookView D) (space : List ℕ) (ttl pin : ℕ) (found : OpensOrMakes tells meaning old book) where
   abbrev start : Cache
   start = book.cache
 
   abbrev Starts : Type 0
-  Starts = IsTrue tells × EachImage (devices_line meaning old) (λ im. Opens standard im start ⊎ IsEmptyUnmade start im)
+  Starts = IsTrue tells × EachImage (devices_line meaning old) (λ im. OpensAs standard im start ⊎ IsEmptyUnmade start im)
 
   -- a crash now leaves the opened state, that after the entry, or no store
   abbrev Left : Option Entry → Images → Type 0
-  Left made = λ im. Opens standard im start ⊎ Opens standard im (changed start [] made) ⊎ IsEmptyUnmade start im
+  Left made = λ im. OpensAs standard im start ⊎ OpensAs standard im (changed start [] made) ⊎ IsEmptyUnmade start im
 
   unbroken : broken_by book.steps ≡ None
   unbroken = is_unbroken standard book.steps found.steps
@@ -62,150 +64,114 @@ module _ {D : Type 0} (tells : Bool) (meaning : D → Meaning) (old : Devices D)
       with_space start.index space ttl pin answer made found.limits_are (subst P (nothing_yet standard book.steps found.steps) h)
 
   -- up to the opened book
-  opening : (made : Option Entry) → Starts → EachSince (devices_line meaning old) (line_of meaning book) (Left made)
+  opening : (made : Option Entry) → Starts → EachSince (devices_line meaning old) (book_line meaning book) (Left made)
   opening made (told, starts) =
-      weaker (devices_line meaning old) (line_of meaning book) (λ im. Opens standard im start ⊎ IsEmptyUnmade start im) (Left made) (found.any_moment told starts) (λ im. ⊎_elim (λ opens. inl opens) (λ none. inr (inr none)))
+      weaker (devices_line meaning old) (book_line meaning book) (λ im. OpensAs standard im start ⊎ IsEmptyUnmade start im) (Left made) (found.any_moment told starts) (λ im. ⊎_elim (λ opens. inl opens) (λ none. inr (inr none)))
 
   -- there is no memory to tell of it, and nothing is made
-  pub lacks_memory : (written : Option (List ℕ)) (writes : ℕ) (new : Devices D) → new ≡ book.devices → (IsTrue tells → broken_by book.steps ≡ None → EachImage (devices_line meaning new) (λ im. Opens (limits_of book) im start))
-      → EndsInit tells meaning old new written written writes writes space ttl pin (Unmade faults.NoMemory)
-  lacks_memory written writes new same closes words hour input reads reads_now form =
+  pub lacks_memory : (bytes : Bytes) (count : ℕ) (new : Devices D) → new ≡ book.devices → (IsTrue tells → broken_by book.steps ≡ None → EachImage (devices_line meaning new) (λ im. OpensAs (limits_of book) im start))
+      → EndsInit tells meaning old new (untouched bytes count) space ttl pin (Unmade faults.NoMemory)
+  lacks_memory bytes count new same closes words hour source still form =
       let P : Devices D → Type 0 = λ d. EachSince (devices_line meaning old) (devices_line meaning d) (Left None) in (
         space,
         ttl,
         pin,
         form,
-        (refl, refl),
-        start,
-        (found.held, λ starts. subst P (sym same) (opening None starts), λ starts im is. let Q : Limits → Type 0 = λ l. Opens l im start in subst Q found.limits_are (closes starts.0 unbroken im is)),
+        (
+          (still, (refl, refl)),
+          start,
+          (found.held, λ starts. subst P (sym same) (opening None starts), λ starts im is. let Q : Limits → Type 0 = λ l. OpensAs l im start in subst Q found.limits_are (closes starts.0 unbroken im is)),
+        ),
       )
 
   module _ (next : BookView D) (goes : GoesOn tells meaning book next) where
-    -- up to the book behind the entry
-    making : (made : Option Entry) → next.cache ≡ changed start [] made → Starts → EachSince (devices_line meaning old) (line_of meaning next) (Left made)
+    -- up to the book after the entry
+    making : (made : Option Entry) → next.cache ≡ changed start [] made → Starts → EachSince (devices_line meaning old) (book_line meaning next) (Left made)
     making made is (told, starts) =
-        let P : Limits → Type 0 = λ l. EachSince (line_of meaning book) (line_of meaning next) (λ im. Opens l im start ⊎ Opens l im next.cache) in
-        let Q : Cache → Type 0 = λ c. EachSince (line_of meaning book) (line_of meaning next) (λ im. Opens standard im start ⊎ Opens standard im c) in
+        let P : Limits → Type 0 = λ l. EachSince (book_line meaning book) (book_line meaning next) (λ im. OpensAs l im start ⊎ OpensAs l im next.cache) in
+        let Q : Cache → Type 0 = λ c. EachSince (book_line meaning book) (book_line meaning next) (λ im. OpensAs standard im start ⊎ OpensAs standard im c) in
         let crash = subst Q is (subst P found.limits_are (goes.crash told unbroken)) in
-        let last = weaker (line_of meaning book) (line_of meaning next) (λ im. Opens standard im start ⊎ Opens standard im (changed start [] made)) (Left made) crash (λ im. ⊎_elim (λ before. inl before) (λ after. inr (inl after))) in
-        then_runs (devices_line meaning old) (line_of meaning book) (line_of meaning next) (Left made) (Left made) (opening made (told, starts)) last (λ im left. left)
+        let last = weaker (book_line meaning book) (book_line meaning next) (λ im. OpensAs standard im start ⊎ OpensAs standard im (changed start [] made)) (Left made) crash (λ im. ⊎_elim (λ before. inl before) (λ after. inr (inl after))) in
+        then_runs (devices_line meaning old) (book_line meaning book) (book_line meaning next) (Left made) (Left made) (opening made (told, starts)) last (λ im left. left)
 
-    module _ (from to : Option (List ℕ)) (before now : ℕ) where
-      abbrev scene : Option ℕ → Option (List ℕ) → ℕ → ℕ → Scene D
-      scene hour input reads reads_now = record {
-        tells = tells;
-        meaning = meaning;
-        old = old;
-        new = next.devices;
-        hour = hour;
-        input = input;
-        left = input;
-        from = from;
-        to = to;
-        reads_before = reads;
-        reads_now = reads_now;
-        writes_before = before;
-        writes_now = now;
-      }
+    module _ (sink : Effect Bytes) where
+      abbrev here : Option ℕ → Effect Bytes → Scene D
+      here hour source = scene tells meaning old next.devices hour source sink
 
-      abbrev Closes : Type 0
-      Closes = IsTrue tells → broken_by next.steps ≡ None → EachImage (line_of meaning next) (λ im. Opens (limits_of next) im next.cache)
+      abbrev Closes : Devices D → Type 0
+      Closes new = IsTrue tells → broken_by next.steps ≡ None → EachImage (devices_line meaning new) (λ im. OpensAs (limits_of next) im next.cache)
 
-      makes : (hour : Option ℕ) (input : Option (List ℕ)) (reads reads_now : ℕ) (answer : Result (Unit {0}) StoreFault) (made : Option Entry) → SpaceAs start.index space ttl pin answer made → next.cache ≡ changed start [] made
-          → Makes (scene hour input reads reads_now) space ttl pin start answer made
-      makes hour input reads reads_now answer made answered is = record { found = found.held; answers = answered; any_moment = making made is }
+      asks : (hour : Option ℕ) (source : Effect Bytes) (answer : Result (Unit {0}) StoreFault) (made : Option Entry) → SpaceAs start.index space ttl pin answer made → next.cache ≡ changed start [] made
+          → AsksSpace (here hour source) space ttl pin start answer made
+      asks hour source answer made answered is = record { found = found.held; answers = answered; any_moment = making made is }
 
       limits_next : (made : Option Entry) → next.cache ≡ changed start [] made → (made ≡ None) ⊎ (made ≡ Some (Space space ttl pin)) → limits_of next ≡ standard
       limits_next made is (inl none) = ap (λ c. c.index.limits) (is ∙ ap (changed start []) none) ∙ found.limits_are
       limits_next made is (inr some) = ap (λ c. c.index.limits) (is ∙ ap (changed start []) some) ∙ found.limits_are
 
-      leaves : (hour : Option ℕ) (input : Option (List ℕ)) (reads reads_now : ℕ) (made : Option Entry) → Closes → broken_by next.steps ≡ None → next.cache ≡ changed start [] made → (made ≡ None) ⊎ (made ≡ Some (Space space ttl pin))
-          → LeavesAfter (scene hour input reads reads_now) start made
-      leaves hour input reads reads_now made closes unbroken_next is which starts im now =
-          let P : Limits → Type 0 = λ l. Opens l im next.cache in
-          let Q : Cache → Type 0 = λ c. Opens standard im c in
+      leaves : (hour : Option ℕ) (source : Effect Bytes) (made : Option Entry) → Closes next.devices → broken_by next.steps ≡ None → next.cache ≡ changed start [] made → (made ≡ None) ⊎ (made ≡ Some (Space space ttl pin))
+          → LeavesAfter (here hour source) start made
+      leaves hour source made closes unbroken_next is which starts im now =
+          let P : Limits → Type 0 = λ l. OpensAs l im next.cache in
+          let Q : Cache → Type 0 = λ c. OpensAs standard im c in
           subst Q is (subst P (limits_next made is which) (closes starts.0 unbroken_next im now))
 
       abbrev Answer : Result (Unit {0}) StoreFault → Type 0
-      Answer result = Gives book [] next (WithRoom start.index (past_of book.steps) (SpaceAs start.index space ttl pin)) result
+      Answer result = CommandGives book [] next (WithRoom start.index (past_of book.steps) (SpaceAs start.index space ttl pin)) result
 
-      made_next : Closes → Answer (Ok tt) → Appends from to (made_line space ttl pin) → EndsInit tells meaning old next.devices from to before now space ttl pin Made
-      made_next closes (_, made, answers, becomes) told words hour input reads reads_now form =
+      makes : (hour : Option ℕ) (source : Effect Bytes) → IsUntouched source → Closes next.devices → Answer (Ok tt) → MakesSpace (here hour source) space ttl pin
+      makes hour source still closes (_, made, answers, becomes) =
           let answered = space_as (Ok tt) made answers in
-          let is = becomes_cache book next made becomes in (
-            space,
-            ttl,
-            pin,
-            form,
-            refl,
-            start,
-            made,
-            makes hour input reads reads_now (Ok tt) made answered is,
-            leaves hour input reads reads_now made closes (becomes_unbroken book next made unbroken becomes) is (inr (space_made start.index space ttl pin made answered)),
-            told,
-          )
+          let is = becomes_cache book next made becomes in
+          (still, start, made, asks hour source (Ok tt) made answered is, leaves hour source made closes (becomes_unbroken book next made unbroken becomes) is (inr (space_made start.index space ttl pin made answered)))
 
-      untold_next : Closes → Answer (Ok tt) → AppendsFront from to (made_line space ttl pin) → Rose before now → EndsInit tells meaning old next.devices from to before now space ttl pin Untold
-      untold_next closes (_, made, answers, becomes) told rose words hour input reads reads_now form =
-          let answered = space_as (Ok tt) made answers in
-          let is = becomes_cache book next made becomes in (
-            space,
-            ttl,
-            pin,
-            form,
-            refl,
-            start,
-            made,
-            makes hour input reads reads_now (Ok tt) made answered is,
-            leaves hour input reads reads_now made closes (becomes_unbroken book next made unbroken becomes) is (inr (space_made start.index space ttl pin made answered)),
-            told,
-            rose,
-          )
+      made_next : Closes next.devices → Answer (Ok tt) → Appends sink.before sink.after (made_line space ttl pin) → MeetsNoFault sink → EndsInit tells meaning old next.devices sink space ttl pin Made
+      made_next closes answer told same words hour source still form = (space, ttl, pin, form, (makes hour source still closes answer, told, same))
+
+      untold_next : Closes next.devices → Answer (Ok tt) → AppendsFront sink.before sink.after (made_line space ttl pin) → Rises sink → EndsInit tells meaning old next.devices sink space ttl pin Untold
+      untold_next closes answer told rose words hour source still form = (space, ttl, pin, form, (makes hour source still closes answer, told, rose))
 
       -- a refusal that no namespace gets
       never : (fault : StoreFault) (made : Option Entry) → WithRoom start.index (past_of book.steps) (SpaceAs start.index space ttl pin) (Err fault) made → IsFull fault
       never fault made answers = (space_refused start.index space ttl pin fault made (space_as (Err fault) made answers)).1
 
-      unmakes : (hour : Option ℕ) (input : Option (List ℕ)) (reads reads_now : ℕ) (fault : StoreFault) → Closes → Answer (Err fault) → (fault ≡ faults.DiskFailed → Rose (faults_of meaning book) (faults_of meaning next))
-          → Unmakes (scene hour input reads reads_now) space ttl pin start fault
-      unmakes hour input reads reads_now (faults.Broken count) closes (broken, same) cause = let e = unbroken in cc
-      unmakes hour input reads reads_now faults.UnknownSpace closes (_, made, answers, becomes) cause = cc (never faults.UnknownSpace made answers).2
-      unmakes hour input reads reads_now faults.NotFound closes (_, made, answers, becomes) cause = cc (never faults.NotFound made answers).2
-      unmakes hour input reads reads_now faults.NotFinalised closes (_, made, answers, becomes) cause = cc (never faults.NotFinalised made answers).2
-      unmakes hour input reads reads_now faults.NotPending closes (_, made, answers, becomes) cause = cc (never faults.NotPending made answers).2
-      unmakes hour input reads reads_now (faults.Full what limit) closes (_, made, answers, becomes) cause =
+      lacks : (hour : Option ℕ) (source : Effect Bytes) (fault : StoreFault) → Closes next.devices → Answer (Err fault) → (fault ≡ faults.DiskFailed → Rose (book_faults meaning book) (book_faults meaning next))
+          → LacksSpace (here hour source) space ttl pin start fault
+      lacks hour source (faults.Broken count) closes (broken, same) cause = let e = unbroken in cc
+      lacks hour source faults.UnknownSpace closes (_, made, answers, becomes) cause = cc (never faults.UnknownSpace made answers).2
+      lacks hour source faults.NotFound closes (_, made, answers, becomes) cause = cc (never faults.NotFound made answers).2
+      lacks hour source faults.NotFinalised closes (_, made, answers, becomes) cause = cc (never faults.NotFinalised made answers).2
+      lacks hour source faults.NotPending closes (_, made, answers, becomes) cause = cc (never faults.NotPending made answers).2
+      lacks hour source (faults.Full what limit) closes (_, made, answers, becomes) cause =
           let answered = space_as (Err (faults.Full what limit)) made answers in
           let none = (space_refused start.index space ttl pin (faults.Full what limit) made answered).0 in
           let P : Option Entry → Type 0 = λ m. SpaceAs start.index space ttl pin (Err (faults.Full what limit)) m in
           let Q : Option Entry → Type 0 = λ m. next.cache ≡ changed start [] m in
           let is = subst Q none (becomes_cache book next made becomes) in
-          (makes hour input reads reads_now (Err (faults.Full what limit)) None (subst P none answered) is, leaves hour input reads reads_now None closes (becomes_unbroken book next made unbroken becomes) is (inl refl))
-      unmakes hour input reads reads_now (faults.HistoryFull entries links) closes (_, made, answers, becomes) cause = cc (never (faults.HistoryFull entries links) made answers).2
-      unmakes hour input reads reads_now faults.NoMemory closes (_, same) cause =
-          let is = ap (λ b. b.cache) same in (found.held, making None is, leaves hour input reads reads_now None closes (ap (λ b. broken_by b.steps) same ∙ unbroken) is (inl refl))
-      unmakes hour input reads reads_now faults.DiskFailed closes (_, value, entry, count, count_now, answers, is, steps) cause = (
-        (Some entry, makes hour input reads reads_now (Ok tt) (Some entry) (space_as (Ok tt) (Some entry) answers) is),
-        rose_later (devices_faults meaning old) (faults_of meaning book) (faults_of meaning next) found.later (cause refl),
+          (asks hour source (Err (faults.Full what limit)) None (subst P none answered) is, leaves hour source None closes (becomes_unbroken book next made unbroken becomes) is (inl refl))
+      lacks hour source (faults.HistoryFull entries links) closes (_, made, answers, becomes) cause = cc (never (faults.HistoryFull entries links) made answers).2
+      lacks hour source faults.NoMemory closes (_, same) cause =
+          let is = ap (λ b. b.cache) same in (found.held, making None is, leaves hour source None closes (ap (λ b. broken_by b.steps) same ∙ unbroken) is (inl refl))
+      lacks hour source faults.DiskFailed closes (_, value, entry, count, count_now, answers, is, steps) cause = (
+        (Some entry, asks hour source (Ok tt) (Some entry) (space_as (Ok tt) (Some entry) answers) is),
+        rose_later (devices_faults meaning old) (book_faults meaning book) (book_faults meaning next) found.later (cause refl),
       )
-      unmakes hour input reads reads_now (faults.Damaged name hash) closes (_, made, answers, becomes) cause = cc (never (faults.Damaged name hash) made answers).2
+      lacks hour source (faults.Damaged name hash) closes (_, made, answers, becomes) cause = cc (never (faults.Damaged name hash) made answers).2
 
-      unmade_next : (fault : StoreFault) → to ≡ from → Closes → Answer (Err fault) → (fault ≡ faults.DiskFailed → Rose (faults_of meaning book) (faults_of meaning next)) → EndsInit tells meaning old next.devices from to before now space ttl pin (Unmade fault)
-      unmade_next fault quiet closes answer cause words hour input reads reads_now form = (space, ttl, pin, form, (refl, quiet), start, unmakes hour input reads reads_now fault closes answer cause)
+      unmade_next : (fault : StoreFault) → IsUntouched sink → Closes next.devices → Answer (Err fault) → (fault ≡ faults.DiskFailed → Rose (book_faults meaning book) (book_faults meaning next)) → EndsInit tells meaning old next.devices sink space ttl pin (Unmade fault)
+      unmade_next fault quiet closes answer cause words hour source still form = (space, ttl, pin, form, ((still, quiet), start, lacks hour source fault closes answer cause))
 
-      abbrev ClosesAt : Devices D → Type 0
-      ClosesAt new = IsTrue tells → broken_by next.steps ≡ None → EachImage (devices_line meaning new) (λ im. Opens (limits_of next) im next.cache)
+      pub makes_space : (new : Devices D) → new ≡ next.devices → Closes new → Answer (Ok tt) → Appends sink.before sink.after (made_line space ttl pin) → MeetsNoFault sink → EndsInit tells meaning old new sink space ttl pin Made
+      makes_space new same closes answer told still =
+          let P : Devices D → Type 0 = λ d. Closes d → EndsInit tells meaning old d sink space ttl pin Made in
+          subst P (sym same) (λ c. made_next c answer told still) closes
 
-      pub makes_space : (new : Devices D) → new ≡ next.devices → ClosesAt new → Answer (Ok tt) → Appends from to (made_line space ttl pin) → EndsInit tells meaning old new from to before now space ttl pin Made
-      makes_space new same closes answer told =
-          let P : Devices D → Type 0 = λ d. ClosesAt d → EndsInit tells meaning old d from to before now space ttl pin Made in
-          subst P (sym same) (λ c. made_next c answer told) closes
-
-      pub makes_untold : (new : Devices D) → new ≡ next.devices → ClosesAt new → Answer (Ok tt) → AppendsFront from to (made_line space ttl pin) → Rose before now → EndsInit tells meaning old new from to before now space ttl pin Untold
+      pub makes_untold : (new : Devices D) → new ≡ next.devices → Closes new → Answer (Ok tt) → AppendsFront sink.before sink.after (made_line space ttl pin) → Rises sink → EndsInit tells meaning old new sink space ttl pin Untold
       makes_untold new same closes answer told rose =
-          let P : Devices D → Type 0 = λ d. ClosesAt d → EndsInit tells meaning old d from to before now space ttl pin Untold in
+          let P : Devices D → Type 0 = λ d. Closes d → EndsInit tells meaning old d sink space ttl pin Untold in
           subst P (sym same) (λ c. untold_next c answer told rose) closes
 
-      pub refuses_space : (fault : StoreFault) → to ≡ from → (new : Devices D) → new ≡ next.devices → ClosesAt new → Answer (Err fault) → (fault ≡ faults.DiskFailed → Rose (faults_of meaning book) (faults_of meaning next)) → EndsInit tells meaning old new from to before now space ttl pin (Unmade fault)
+      pub refuses_space : (fault : StoreFault) → IsUntouched sink → (new : Devices D) → new ≡ next.devices → Closes new → Answer (Err fault) → (fault ≡ faults.DiskFailed → Rose (book_faults meaning book) (book_faults meaning next)) → EndsInit tells meaning old new sink space ttl pin (Unmade fault)
       refuses_space fault quiet new same closes answer cause =
-          let P : Devices D → Type 0 = λ d. ClosesAt d → EndsInit tells meaning old d from to before now space ttl pin (Unmade fault) in
+          let P : Devices D → Type 0 = λ d. Closes d → EndsInit tells meaning old d sink space ttl pin (Unmade fault) in
           subst P (sym same) (λ c. unmade_next fault quiet c answer cause) closes

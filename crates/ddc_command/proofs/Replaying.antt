@@ -1,144 +1,155 @@
 -- What answering a stream from an opened store leaves.
-use Rattle.std.proofs.Common.{◌≡◌, ◌≢◌, ℕ, Bool, IsTrue, List, [], Option, Some, None, refl, ◌∙◌, subst, sym, arith}
-use Rattle.std.specs.Prelude.{IfSome, ◌⊎◌}
-use Rattle.ddc_names.specs.Causes.{Rose}
-use Rattle.ddc_disk.specs.Disk.{Meaning, IsImage, EachImage, EachSince}
+use Rattle.std.proofs.Common.{◌≡◌, ◌≢◌, ℕ, Bool, IsTrue, [], Option, None, refl, ◌∙◌, subst, sym, arith}
+use Rattle.std.specs.Prelude.{◌⊎◌, ◌≤◌}
+use Rattle.ddc_disk.specs.Disk.{Meaning, Timeline, IsImage, EachImage, EachSince}
 use Rattle.ddc_disk.specs.Images.{Images, devices_line, devices_faults}
 use Rattle.ddc_disk.specs.Since.{then_runs, weaker}
 use Rattle.ddc_disk.specs.declared.devices.Devices.{Devices}
 use Rattle.ddc_model.specs.declared.rows.Limits.{Limits}
 use Rattle.ddc_model.specs.Limits.{standard}
 use Rattle.ddc_model.specs.History.{broken_by}
-use Rattle.ddc_book.specs.Opening.{Opens, OpenFaultOf}
-use Rattle.ddc_book.specs.declared.fault.OpenFault.{OpenFault}
-use Rattle.ddc_book.specs.declared.fault.OpenFault.TheVariants as open_faults
-use Rattle.ddc_book.specs.Loading.{AsBefore, IsLoaded}
-use Rattle.ddc_book.specs.View.{BookView, limits_of, line_of, faults_of}
+use Rattle.ddc_opening.specs.Opening.{OpensAs, OpenFaultOf}
+use Rattle.ddc_opening.specs.declared.fault.OpenFault.{OpenFault}
+use Rattle.ddc_opening.specs.declared.fault.OpenFault.TheVariants as open_faults
+use Rattle.ddc_opening.specs.Loading.{AsBefore}
+use Rattle.ddc_book.specs.Loading.{IsLoaded}
+use Rattle.ddc_book.specs.View.{BookView, limits_of, book_line, book_faults}
 use Rattle.ddc_model.specs.Sound.{Cache}
-use Rattle.ddc_command.specs.declared.session.Served.{Served}
-use Rattle.ddc_command.specs.declared.session.Served.TheVariants.{Closed, Unread, Cut, Spent, ReadFailed, WriteFailed, DiskFailed, Damaged, NoMemory}
-use Rattle.ddc_command.specs.declared.end.Ended.TheVariants.{Replayed, Unopened}
-use Rattle.ddc_command.specs.Replies.{OpenStore, just_opened}
-use Rattle.ddc_command.specs.Session.{store_of, OpensWithin, Serves, Stops, StartsAs}
-use Rattle.ddc_command.specs.Words.{replay, form_of}
-use Rattle.ddc_command.specs.Top.{Scene, HasRisen, OpensTo, Leaves, EndsReplay}
-use Rattle.ddc_command.proofs.Writing.{rose_later}
-use Rattle.ddc_command.proofs.Opened.{opens_just}
-use Rattle.ddc_command.proofs.Unopened.{unopens, some_form}
-
-none_begins : (input : Option (List ℕ)) → StartsAs input []
-none_begins None = tt
-none_begins (Some bytes) = (bytes, refl)
+use Rattle.ddc_service.specs.declared.session.SessionEnd.{SessionEnd}
+use Rattle.ddc_service.specs.declared.session.SessionEnd.TheVariants.{Closed, Unread, Cut, Spent, ReadFailed, WriteFailed, DiskFailed, Damaged, NoMemory}
+use Rattle.ddc_service.specs.Effects.{Effect, Bytes, effect, IsUntouched}
+use Rattle.ddc_service.specs.Replies.{OpenStore, just_opened}
+use Rattle.ddc_service.specs.Session.{Session, session, store_of, OpensWithin, IsSession, CountsAs, Stops}
+use Rattle.ddc_service.proofs.Writing.{rose_later}
+use Rattle.ddc_service.proofs.Turning.{starts_nothing}
+use Rattle.ddc_command.specs.declared.command.Command.TheVariants.{Replay}
+use Rattle.ddc_command.specs.declared.end.CommandEnd.TheVariants.{Replayed, Unopened}
+use Rattle.ddc_command.specs.Words.{command_of}
+use Rattle.ddc_command.specs.Ends.{Scene, scene, session_in, FirstHeld, DevicesRose, OpensTo}
+use Rattle.ddc_command.specs.inside.Parts.{EndsFor}
+use Rattle.ddc_service.proofs.Opened.{opens_just}
+use Rattle.ddc_command.proofs.Unopened.{unopens, some_command}
 
 -- nothing was answered yet
-opens_within : (told : Option ℕ) (input : Option (List ℕ)) (cache : Cache) (im : Images) → Opens standard im cache → OpensWithin told input (just_opened cache) standard im
+opens_within : (told : Option ℕ) (input : Bytes) (cache : Cache) (im : Images) → OpensAs standard im cache → OpensWithin told input (just_opened cache) standard im
 opens_within told input cache im opens = record {
   items = [];
   text = [];
   state = just_opened cache;
-  answered = record { begins = none_begins input; few = omega arith; runs = (refl, refl) };
+  answered = record { begins = starts_nothing input; few = omega arith; runs = (refl, refl) };
   opens = opens;
 }
 
-module _ {D : Type 0} (tells : Bool) (meaning : D → Meaning) (old : Devices D) (book next : BookView D) (hour : Option ℕ) (input left from to : Option (List ℕ)) (reads reads_now writes writes_now : ℕ) (served : Served)
-    (loaded : IsLoaded meaning old standard book) (serves : Serves hour input left from to (store_of book) (store_of next) served)
-    (runs : IsTrue tells → EachImage (line_of meaning book) (λ im. Opens (limits_of book) im book.cache) → EachSince (line_of meaning book) (line_of meaning next) (OpensWithin hour input (store_of book) (limits_of book)))
-    (stops : IsTrue tells → Stops hour input (line_of meaning next) (limits_of book) (store_of book) (store_of next) served)
-    (limits : limits_of next ≡ limits_of book) (unbroken : served ≢ DiskFailed → broken_by next.steps ≡ None)
-    (read : served ≡ ReadFailed → Rose reads reads_now) (write : served ≡ WriteFailed → Rose writes writes_now) (disk : served ≡ DiskFailed → Rose (faults_of meaning book) (faults_of meaning next)) where
-  abbrev scene_at : Devices D → Scene D
-  scene_at new = record {
-    tells = tells;
-    meaning = meaning;
-    old = old;
-    new = new;
-    hour = hour;
-    input = input;
-    left = left;
-    from = from;
-    to = to;
-    reads_before = reads;
-    reads_now = reads_now;
-    writes_before = writes;
-    writes_now = writes_now;
-  }
+-- what is said of how often the store failed does not turn on what was written
+same_replies : (s : Session) (before after : ℕ) (end : SessionEnd) → IsSession s end → IsSession (session s.hour s.source s.sink (record { before = s.store.before; after = s.store.after; faults_before = before; faults_after = after })) end
+same_replies s before after Closed h = h
+same_replies s before after (Unread at) h = h
+same_replies s before after (Cut at) h = h
+same_replies s before after (Spent at) h = h
+same_replies s before after ReadFailed h = h
+same_replies s before after WriteFailed h = h
+same_replies s before after DiskFailed h = h
+same_replies s before after Damaged h = h
+same_replies s before after NoMemory h = h
 
-  abbrev scene : Scene D
-  scene = scene_at next.devices
+same_stops : (s : Session) (before after : ℕ) (line : Timeline Images) (limits : Limits) (end : SessionEnd) → Stops s line limits end
+    → Stops (session s.hour s.source s.sink (record { before = s.store.before; after = s.store.after; faults_before = before; faults_after = after })) line limits end
+same_stops s before after line limits Closed h = tt
+same_stops s before after line limits (Unread at) h = tt
+same_stops s before after line limits (Cut at) h = tt
+same_stops s before after line limits (Spent at) h = tt
+same_stops s before after line limits ReadFailed h = tt
+same_stops s before after line limits WriteFailed h = tt
+same_stops s before after line limits DiskFailed h = h
+same_stops s before after line limits Damaged h = tt
+same_stops s before after line limits NoMemory h = tt
 
-  abbrev start : OpenStore
-  start = just_opened book.cache
+-- a count that rose from the opening on rose from the start of the call on
+counts_later : (s : Session) (before : ℕ) (start : OpenStore) (end : SessionEnd) → before ≤ s.store.faults_before → CountsAs s end
+    → CountsAs (session s.hour s.source s.sink (record { before = start; after = s.store.after; faults_before = before; faults_after = s.store.faults_after })) end
+counts_later s before start Closed later h = h
+counts_later s before start (Unread at) later h = h
+counts_later s before start (Cut at) later h = h
+counts_later s before start (Spent at) later h = h
+counts_later s before start ReadFailed later h = h
+counts_later s before start WriteFailed later h = h
+counts_later s before start DiskFailed later (same, rose) = (same, rose_later before s.store.faults_before s.store.faults_after later rose)
+counts_later s before start Damaged later h = h
+counts_later s before start NoMemory later h = h
 
-  just : store_of book ≡ start
-  just = opens_just standard book loaded.steps
+module _ {D : Type 0} (tells : Bool) (meaning : D → Meaning) (old : Devices D) (book next : BookView D) (hour : Option ℕ) (source sink : Effect Bytes) (end : SessionEnd) where
+  abbrev ran : Session
+  ran = session hour source sink (effect store_of (book_faults meaning) book next)
 
-  cause : (end : Served) → served ≡ end → HasRisen scene end
-  cause Closed e = tt
-  cause (Unread at) e = tt
-  cause (Cut at) e = tt
-  cause (Spent at) e = tt
-  cause ReadFailed e = read e
-  cause WriteFailed e = write e
-  cause DiskFailed e = rose_later (devices_faults meaning old) (faults_of meaning book) (faults_of meaning next) loaded.as_before.later (disk e)
-  cause Damaged e = tt
-  cause NoMemory e = tt
+  module _ (loaded : IsLoaded meaning old standard book) (serves : IsSession ran end)
+      (runs : IsTrue tells → EachImage (book_line meaning book) (λ im. OpensAs (limits_of book) im book.cache) → EachSince (book_line meaning book) (book_line meaning next) (OpensWithin hour source.before (store_of book) (limits_of book)))
+      (stops : IsTrue tells → Stops ran (book_line meaning next) (limits_of book) end) (limits : limits_of next ≡ limits_of book) (unbroken : end ≢ DiskFailed → broken_by next.steps ≡ None) (counts : CountsAs ran end) where
+    abbrev scene_at : Devices D → Scene D
+    scene_at new = scene tells meaning old new hour source sink
 
-  abbrev Within : Images → Type 0
-  Within = OpensWithin hour input start standard
+    abbrev here : Scene D
+    here = scene_at next.devices
 
-  session : OpensTo scene book.cache → EachSince (line_of meaning book) (line_of meaning next) Within
-  session (told, opens) =
-      let P : Limits → Type 0 = λ l. EachSince (line_of meaning book) (line_of meaning next) (OpensWithin hour input (store_of book) l) in
-      let Q : OpenStore → Type 0 = λ s. EachSince (line_of meaning book) (line_of meaning next) (OpensWithin hour input s standard) in
-      let now : EachImage (line_of meaning book) (λ im. Opens (limits_of book) im book.cache) =
-      λ im is. let R : Limits → Type 0 = λ l. Opens l im book.cache in subst R (sym loaded.limits_are) (opens im (loaded.as_before.since.each (line_of meaning book).moment im loaded.as_before.since.later is)) in
-      subst Q just (subst P loaded.limits_are (runs told now))
+    abbrev start : OpenStore
+    start = just_opened book.cache
 
-  any_moment : OpensTo scene book.cache → EachSince (devices_line meaning old) (line_of meaning next) Within
-  any_moment opens =
-      let first = weaker (devices_line meaning old) (line_of meaning book) (IsImage (devices_line meaning old)) Within loaded.as_before.since (λ im is. opens_within hour input book.cache im (opens.1 im is)) in
-      then_runs (devices_line meaning old) (line_of meaning book) (line_of meaning next) Within Within first (session opens) (λ im within. within)
+    just : store_of book ≡ start
+    just = opens_just standard book loaded.steps
 
-  leaves : (IsTrue tells → broken_by next.steps ≡ None → EachImage (line_of meaning next) (λ im. Opens (limits_of next) im next.cache)) → OpensTo scene book.cache → Leaves scene start (store_of next) served
-  leaves closed (told, opens) =
-      let P : Limits → Type 0 = λ l. Stops hour input (line_of meaning next) l (store_of book) (store_of next) served in
-      let Q : OpenStore → Type 0 = λ s. Stops hour input (line_of meaning next) standard s (store_of next) served in (
-        λ ok im is. let R : Limits → Type 0 = λ l. Opens l im next.cache in subst R (limits ∙ loaded.limits_are) (closed told (unbroken ok) im is),
-        subst Q just (subst P loaded.limits_are (stops told)),
-      )
+    abbrev Within : Images → Type 0
+    Within = OpensWithin hour source.before start standard
 
-  ends_next : (IsTrue tells → broken_by next.steps ≡ None → EachImage (line_of meaning next) (λ im. Opens (limits_of next) im next.cache)) → EndsReplay scene (Replayed served)
-  ends_next closed words form =
-      let P : OpenStore → Type 0 = λ s. Serves hour input left from to s (store_of next) served in (
-        form,
-        book.cache,
-        store_of next,
-        record {
-          opened = (loaded.held, loaded.whole);
-          serves = subst P just serves;
-          cause = cause served refl;
-          any_moment = any_moment;
-          leaves = leaves closed;
-        },
-      )
+    -- the session as it is seen from the start of the call on
+    abbrev seen_from : OpenStore → Session
+    seen_from store = session hour source sink (record { before = store; after = store_of next; faults_before = devices_faults meaning old; faults_after = devices_faults meaning next.devices })
 
-  pub replays : (new : Devices D) → new ≡ next.devices → (IsTrue tells → broken_by next.steps ≡ None → EachImage (devices_line meaning new) (λ im. Opens (limits_of next) im next.cache)) → EndsReplay (scene_at new) (Replayed served)
-  replays new same closed =
-      let P : Devices D → Type 0 = λ d. (IsTrue tells → broken_by next.steps ≡ None → EachImage (devices_line meaning d) (λ im. Opens (limits_of next) im next.cache)) → EndsReplay (scene_at d) (Replayed served) in
-      subst P (sym same) ends_next closed
+    session_here : IsSession (session_in here book.cache (store_of next)) end
+    session_here = let P : OpenStore → Type 0 = λ store. IsSession (seen_from store) end in subst P just (same_replies ran (devices_faults meaning old) (devices_faults meaning next.devices) end serves)
+
+    stops_here : IsTrue tells → Stops (session_in here book.cache (store_of next)) (book_line meaning next) standard end
+    stops_here told =
+        let P : OpenStore → Type 0 = λ store. Stops (seen_from store) (book_line meaning next) standard end in
+        let Q : Limits → Type 0 = λ l. Stops (seen_from (store_of book)) (book_line meaning next) l end in
+        subst P just (subst Q loaded.limits_are (same_stops ran (devices_faults meaning old) (devices_faults meaning next.devices) (book_line meaning next) (limits_of book) end (stops told)))
+
+    within_session : OpensTo here book.cache → EachSince (book_line meaning book) (book_line meaning next) Within
+    within_session (told, opens) =
+        let P : Limits → Type 0 = λ l. EachSince (book_line meaning book) (book_line meaning next) (OpensWithin hour source.before (store_of book) l) in
+        let Q : OpenStore → Type 0 = λ s. EachSince (book_line meaning book) (book_line meaning next) (OpensWithin hour source.before s standard) in
+        let now : EachImage (book_line meaning book) (λ im. OpensAs (limits_of book) im book.cache) =
+        λ im is. let R : Limits → Type 0 = λ l. OpensAs l im book.cache in subst R (sym loaded.limits_are) (opens im (loaded.as_before.since.each (book_line meaning book).moment im loaded.as_before.since.later is)) in
+        subst Q just (subst P loaded.limits_are (runs told now))
+
+    any_moment : OpensTo here book.cache → EachSince (devices_line meaning old) (book_line meaning next) Within
+    any_moment opens =
+        let first = weaker (devices_line meaning old) (book_line meaning book) (IsImage (devices_line meaning old)) Within loaded.as_before.since (λ im is. opens_within hour source.before book.cache im (opens.1 im is)) in
+        then_runs (devices_line meaning old) (book_line meaning book) (book_line meaning next) Within Within first (within_session opens) (λ im within. within)
+
+    -- the devices that the book gives back, and what a crash leaves of them
+    abbrev Closes : Devices D → Type 0
+    Closes new = IsTrue tells → broken_by next.steps ≡ None → EachImage (devices_line meaning new) (λ im. OpensAs (limits_of next) im next.cache)
+
+    ends_next : Closes next.devices → EndsFor here Replay (Replayed end)
+    ends_next closed words form = (
+      form,
+      book.cache,
+      store_of next,
+      record {
+        opened = (loaded.held, loaded.whole);
+        serves = session_here;
+        counts = counts_later ran (devices_faults meaning old) start end loaded.as_before.later counts;
+        any_moment = any_moment;
+        leaves = λ opens ok im is. let R : Limits → Type 0 = λ l. OpensAs l im next.cache in subst R (limits ∙ loaded.limits_are) (closed opens.0 (unbroken ok) im is);
+        stops = λ opens. stops_here opens.0;
+      },
+    )
+
+    pub replays : (new : Devices D) → new ≡ next.devices → Closes new → EndsFor (scene_at new) Replay (Replayed end)
+    replays new same closed = let P : Devices D → Type 0 = λ d. Closes d → EndsFor (scene_at d) Replay (Replayed end) in subst P (sym same) ends_next closed
 
 -- the store can't be opened
-pub replay_unopened : {D : Type 0} (tells : Bool) (meaning : D → Meaning) (old new : Devices D) (hour : Option ℕ) (input written : Option (List ℕ)) (reads reads_now writes writes_now : ℕ)
-    (limits : Limits) → limits ≡ standard → (fault : OpenFault) → AsBefore meaning old new
-    → ((fault ≡ open_faults.DiskFailed) × Rose (devices_faults meaning old) (devices_faults meaning new)) ⊎ IfSome (meaning old.first).held (λ file. OpenFaultOf limits file fault)
-    → (fault ≡ open_faults.DiskFailed → Rose (devices_faults meaning old) (devices_faults meaning new))
-    → EndsReplay (record { tells = tells; meaning = meaning; old = old; new = new; hour = hour; input = input; left = input; from = written; to = written; reads_before = reads; reads_now = reads_now; writes_before = writes; writes_now = writes_now }) (Unopened fault)
-replay_unopened tells meaning old new hour input written reads reads_now writes writes_now limits are fault back is cause words form =
-    let P : Limits → Type 0 = λ l. ((fault ≡ open_faults.DiskFailed) × Rose (devices_faults meaning old) (devices_faults meaning new)) ⊎ IfSome (meaning old.first).held (λ file. OpenFaultOf l file fault) in (
-      some_form (form_of words) replay form,
-      (refl, refl),
-      back,
-      unopens
-          (record { tells = tells; meaning = meaning; old = old; new = new; hour = hour; input = input; left = input; from = written; to = written; reads_before = reads; reads_now = reads_now; writes_before = writes; writes_now = writes_now })
-          (form_of words) fault (subst P are is) cause (λ e. form),
-    )
+pub replay_unopened : {D : Type 0} (s : Scene D) (limits : Limits) → limits ≡ standard → IsUntouched s.source → IsUntouched s.sink → (fault : OpenFault) → AsBefore s.meaning s.old s.new
+    → ((fault ≡ open_faults.DiskFailed) × DevicesRose s) ⊎ FirstHeld s (λ file. OpenFaultOf limits file fault) → (fault ≡ open_faults.DiskFailed → DevicesRose s) → EndsFor s Replay (Unopened fault)
+replay_unopened s limits are still quiet fault back is cause words form =
+    let P : Limits → Type 0 = λ l. ((fault ≡ open_faults.DiskFailed) × DevicesRose s) ⊎ FirstHeld s (λ file. OpenFaultOf l file fault) in
+    (some_command (command_of words) Replay form, (still, quiet), back, unopens s (command_of words) fault (subst P are is) cause (λ e. form))

@@ -1,4 +1,4 @@
--- What making a namespace in a store answers, just behind the store's opening.
+-- What making a namespace in a store answers, right after the store's opening.
 use Rattle.std.proofs.Common.{◌≡◌, ℕ, ◌+◌, Bool, true, false, List, Option, Some, None, Result, Ok, Err, refl, ◌∙◌, ap, subst, sym}
 use Rattle.std.specs.Prelude.{IfSome, nat_lt, ◌||◌, if◌then◌else◌}
 use Rattle.ddc_model.specs.declared.rows.Limits.{Limits}

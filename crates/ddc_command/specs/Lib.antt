@@ -1,5 +1,4 @@
-pub mod Replies
-pub mod Writes
-pub mod Session
 pub mod Words
-pub mod Top
+pub mod Notes
+pub mod Ends
+pub mod inside

@@ -1,17 +1,17 @@
 // How a command ended.
 
-use crate::session::Served;
 use ddc_book::{OpenFault, StoreFault};
+use ddc_service::SessionEnd;
 
 /// How a command ended.
 #[derive(Clone, Copy, Debug, PartialEq, Eq)]
-pub enum Ended {
+pub enum CommandEnd {
     /// The words are of no form.
     Usage,
     /// The store can't be opened.
     Unopened(OpenFault),
     /// The requests of a stream were answered, to this end.
-    Replayed(Served),
+    Replayed(SessionEnd),
     /// A store can't be made.
     Uncreated(OpenFault),
     /// The store refused to make the namespace.

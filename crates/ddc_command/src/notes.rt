@@ -1,23 +1,26 @@
 // What is told of how a command ended.
-ghost use Rattle.std.specs.Prelude.{◌≡◌, ◌++◌};
-ghost use Rattle.ddc_command.specs.Top.{Noted, NotesAs, bad_note, note_of, open_cause, open_note, open_status, reference_text, refused_note, refused_status, refused_text, served_note, served_status, status_of, unopened_note};
+ghost use Rattle.std.specs.Prelude.{◌≡◌, ◌++◌, codes};
+ghost use Rattle.ddc_service.specs.Effects.{effect};
+ghost use Rattle.ddc_command.specs.Notes.{bad_note, note_of, open_cause, open_note, open_status, reference_text, refused_note, refused_status, session_note, session_status, status_of};
+ghost use Rattle.ddc_command.specs.Ends.{Noted};
+ghost use Rattle.ddc_command.specs.inside.Noting.{NotesAs};
 
-use crate::end::Ended;
-use crate::session::Served;
+use crate::end::CommandEnd;
 use ddc_book::{OpenFault, StoreFault};
 use ddc_link::{Sink, put_all};
 use ddc_names::{Failed, RefName};
+use ddc_service::SessionEnd;
 use itoa::Buffer;
 
 fn write_note<N: Sink>(notes: &mut N, text: &[u8]) -> Result<(), Failed>
-    ensures gives { NotesAs (N.written notes.old) (N.written notes.new) (N.faults notes.old) (N.faults notes.new) text.now result }
+    ensures gives { NotesAs (effect N.written N.faults notes.old notes.new) text.now result }
 {
     put_all(notes, text)
 }
 
-// Writes two texts, one behind the other.
+// Writes two texts, one after the other.
 fn write_two<N: Sink>(notes: &mut N, first: &[u8], second: &[u8]) -> Result<(), Failed>
-    ensures gives { NotesAs (N.written notes.old) (N.written notes.new) (N.faults notes.old) (N.faults notes.new) (first.now ++ second.now) result }
+    ensures gives { NotesAs (effect N.written N.faults notes.old notes.new) (first.now ++ second.now) result }
 {
     match write_note(notes, first) {
         Ok(()) => write_note(notes, second),
@@ -32,7 +35,7 @@ fn write_four<N: Sink>(
     third: &[u8],
     fourth: &[u8],
 ) -> Result<(), Failed>
-    ensures gives { NotesAs (N.written notes.old) (N.written notes.new) (N.faults notes.old) (N.faults notes.new) ((first.now ++ second.now) ++ (third.now ++ fourth.now)) result }
+    ensures gives { NotesAs (effect N.written N.faults notes.old notes.new) ((first.now ++ second.now) ++ (third.now ++ fourth.now)) result }
 {
     match write_two(notes, first, second) {
         Ok(()) => write_two(notes, third, fourth),
@@ -40,9 +43,9 @@ fn write_four<N: Sink>(
     }
 }
 
-// Writes the note on an end inside the input, behind so many bytes.
+// Writes the note on an end inside the input, after so many bytes.
 fn write_bad<N: Sink>(notes: &mut N, at: u64, code: &str) -> Result<(), Failed>
-    ensures gives { NotesAs (N.written notes.old) (N.written notes.new) (N.faults notes.old) (N.faults notes.new) (bad_note at code.now) result }
+    ensures gives { NotesAs (effect N.written N.faults notes.old notes.new) (bad_note at code.now) result }
 {
     let mut digits = Buffer::new();
     let place = digits.format(at).as_bytes();
@@ -53,25 +56,25 @@ fn write_bad<N: Sink>(notes: &mut N, at: u64, code: &str) -> Result<(), Failed>
 }
 
 // Writes the note on how a session ended.
-fn write_served<N: Sink>(notes: &mut N, served: Served) -> Result<(), Failed>
-    ensures gives { NotesAs (N.written notes.old) (N.written notes.new) (N.faults notes.old) (N.faults notes.new) (served_note served) result }
+fn write_session<N: Sink>(notes: &mut N, end: SessionEnd) -> Result<(), Failed>
+    ensures gives { NotesAs (effect N.written N.faults notes.old notes.new) (session_note end) result }
 {
-    match served {
-        Served::Closed => write_note(notes, b""),
-        Served::Unread(at) => write_bad(notes, at, "unread"),
-        Served::Cut(at) => write_bad(notes, at, "cut"),
-        Served::Spent(at) => write_bad(notes, at, "too_many_requests"),
-        Served::ReadFailed => write_note(notes, b"ddc: read failed\n"),
-        Served::WriteFailed => write_note(notes, b"ddc: write failed\n"),
-        Served::DiskFailed => write_note(notes, b"ddc: disk failed\n"),
-        Served::Damaged => write_note(notes, b"ddc: damaged blobs 1\n"),
-        Served::NoMemory => write_note(notes, b"ddc: no memory\n"),
+    match end {
+        SessionEnd::Closed => write_note(notes, b""),
+        SessionEnd::Unread(at) => write_bad(notes, at, "unread"),
+        SessionEnd::Cut(at) => write_bad(notes, at, "cut"),
+        SessionEnd::Spent(at) => write_bad(notes, at, "too_many_requests"),
+        SessionEnd::ReadFailed => write_note(notes, b"ddc: read failed\n"),
+        SessionEnd::WriteFailed => write_note(notes, b"ddc: write failed\n"),
+        SessionEnd::DiskFailed => write_note(notes, b"ddc: disk failed\n"),
+        SessionEnd::Damaged => write_note(notes, b"ddc: damaged blobs 1\n"),
+        SessionEnd::NoMemory => write_note(notes, b"ddc: no memory\n"),
     }
 }
 
 // Writes a reference: the namespace, the bucket and the key's digits.
 fn write_reference<N: Sink>(notes: &mut N, name: RefName) -> Result<(), Failed>
-    ensures gives { NotesAs (N.written notes.old) (N.written notes.new) (N.faults notes.old) (N.faults notes.new) (reference_text name) result }
+    ensures gives { NotesAs (effect N.written N.faults notes.old notes.new) (reference_text name) result }
 {
     let RefName { space, spot } = name;
     match write_four(
@@ -87,7 +90,7 @@ fn write_reference<N: Sink>(notes: &mut N, name: RefName) -> Result<(), Failed>
 }
 
 fn write_unsound<N: Sink>(notes: &mut N, name: RefName) -> Result<(), Failed>
-    ensures gives { NotesAs (N.written notes.old) (N.written notes.new) (N.faults notes.old) (N.faults notes.new) (open_cause (OpenFault.Unsound name)) result }
+    ensures gives { NotesAs (effect N.written N.faults notes.old notes.new) (open_cause (OpenFault.Unsound name)) result }
 {
     match write_note(notes, b"unsound ") {
         Ok(()) => write_reference(notes, name),
@@ -96,7 +99,7 @@ fn write_unsound<N: Sink>(notes: &mut N, name: RefName) -> Result<(), Failed>
 }
 
 fn write_corrupt<N: Sink>(notes: &mut N, file: u8, at: u64) -> Result<(), Failed>
-    ensures gives { NotesAs (N.written notes.old) (N.written notes.new) (N.faults notes.old) (N.faults notes.new) (open_cause (OpenFault.Corrupt file at)) result }
+    ensures gives { NotesAs (effect N.written N.faults notes.old notes.new) (open_cause (OpenFault.Corrupt file at)) result }
 {
     let mut number = Buffer::new();
     let mut place = Buffer::new();
@@ -106,7 +109,7 @@ fn write_corrupt<N: Sink>(notes: &mut N, file: u8, at: u64) -> Result<(), Failed
 }
 
 fn write_version<N: Sink>(notes: &mut N, found: u32) -> Result<(), Failed>
-    ensures gives { NotesAs (N.written notes.old) (N.written notes.new) (N.faults notes.old) (N.faults notes.new) (open_cause (OpenFault.BadVersion found)) result }
+    ensures gives { NotesAs (effect N.written N.faults notes.old notes.new) (open_cause (OpenFault.BadVersion found)) result }
 {
     let mut digits = Buffer::new();
     write_two(notes, b"version ", digits.format(found).as_bytes())
@@ -114,7 +117,7 @@ fn write_version<N: Sink>(notes: &mut N, found: u32) -> Result<(), Failed>
 
 // Writes why a store's bytes don't open.
 fn write_cause<N: Sink>(notes: &mut N, fault: OpenFault) -> Result<(), Failed>
-    ensures gives { NotesAs (N.written notes.old) (N.written notes.new) (N.faults notes.old) (N.faults notes.new) (open_cause fault) result }
+    ensures gives { NotesAs (effect N.written N.faults notes.old notes.new) (open_cause fault) result }
 {
     match fault {
         OpenFault::NotMade => write_note(notes, b"not made"),
@@ -128,7 +131,7 @@ fn write_cause<N: Sink>(notes: &mut N, fault: OpenFault) -> Result<(), Failed>
 
 // Writes the note on a store whose bytes don't open.
 fn write_unopened<N: Sink>(notes: &mut N, fault: OpenFault) -> Result<(), Failed>
-    ensures gives { NotesAs (N.written notes.old) (N.written notes.new) (N.faults notes.old) (N.faults notes.new) (unopened_note (open_cause fault)) result }
+    ensures gives { NotesAs (effect N.written N.faults notes.old notes.new) (codes "ddc: cannot open store: " ++ open_cause fault ++ codes "\n") result }
 {
     match write_note(notes, b"ddc: cannot open store: ") {
         Ok(()) => match write_cause(notes, fault) {
@@ -141,7 +144,7 @@ fn write_unopened<N: Sink>(notes: &mut N, fault: OpenFault) -> Result<(), Failed
 
 // Writes the note on a store that can't be opened or made.
 fn write_open_fault<N: Sink>(notes: &mut N, fault: OpenFault) -> Result<(), Failed>
-    ensures gives { NotesAs (N.written notes.old) (N.written notes.new) (N.faults notes.old) (N.faults notes.new) (open_note fault) result }
+    ensures gives { NotesAs (effect N.written N.faults notes.old notes.new) (open_note fault) result }
 {
     match fault {
         OpenFault::NotMade => write_unopened(notes, fault),
@@ -154,7 +157,7 @@ fn write_open_fault<N: Sink>(notes: &mut N, fault: OpenFault) -> Result<(), Fail
 }
 
 fn write_refused<N: Sink>(notes: &mut N, code: &[u8]) -> Result<(), Failed>
-    ensures gives { NotesAs (N.written notes.old) (N.written notes.new) (N.faults notes.old) (N.faults notes.new) (refused_text code.now) result }
+    ensures gives { NotesAs (effect N.written N.faults notes.old notes.new) (codes "ddc: refused: " ++ code.now ++ codes "\n") result }
 {
     match write_two(notes, b"ddc: refused: ", code) {
         Ok(()) => write_note(notes, b"\n"),
@@ -163,8 +166,8 @@ fn write_refused<N: Sink>(notes: &mut N, code: &[u8]) -> Result<(), Failed>
 }
 
 // Writes the note on a command that the store refused.
-fn write_refusal<N: Sink>(notes: &mut N, fault: StoreFault) -> Result<(), Failed>
-    ensures gives { NotesAs (N.written notes.old) (N.written notes.new) (N.faults notes.old) (N.faults notes.new) (refused_note fault) result }
+fn note_refusal<N: Sink>(notes: &mut N, fault: StoreFault) -> Result<(), Failed>
+    ensures gives { NotesAs (effect N.written N.faults notes.old notes.new) (refused_note fault) result }
 {
     match fault {
         StoreFault::Broken { .. } => write_refused(notes, b"broken"),
@@ -181,33 +184,33 @@ fn write_refusal<N: Sink>(notes: &mut N, fault: StoreFault) -> Result<(), Failed
 }
 
 // Writes the note on how a command ended.
-fn write_end<N: Sink>(notes: &mut N, ended: &Ended) -> Result<(), Failed>
-    ensures gives { NotesAs (N.written notes.old) (N.written notes.new) (N.faults notes.old) (N.faults notes.new) (note_of ended.now) result }
+fn write_end<N: Sink>(notes: &mut N, end: &CommandEnd) -> Result<(), Failed>
+    ensures gives { NotesAs (effect N.written N.faults notes.old notes.new) (note_of end.now) result }
 {
-    match ended {
-        Ended::Usage => write_note(notes, b"usage: ddc init DIR NS TTL PIN | ddc replay DIR\n"),
-        Ended::Unopened(fault) => write_open_fault(notes, *fault),
-        Ended::Replayed(served) => write_served(notes, *served),
-        Ended::Uncreated(fault) => write_open_fault(notes, *fault),
-        Ended::Unmade(fault) => write_refusal(notes, *fault),
-        Ended::Made => write_note(notes, b""),
-        Ended::Untold => write_note(notes, b"ddc: write failed\n"),
+    match end {
+        CommandEnd::Usage => write_note(
+            notes,
+            b"usage: ddc init DIR NS TTL PIN | ddc replay DIR\n",
+        ),
+        CommandEnd::Unopened(fault) => write_open_fault(notes, *fault),
+        CommandEnd::Replayed(end) => write_session(notes, *end),
+        CommandEnd::Uncreated(fault) => write_open_fault(notes, *fault),
+        CommandEnd::Unmade(fault) => note_refusal(notes, *fault),
+        CommandEnd::Made => write_note(notes, b""),
+        CommandEnd::Untold => write_note(notes, b"ddc: write failed\n"),
     }
 }
 
-fn served_status(served: Served) -> u8
-    ensures { result ≡ served_status served }
+fn session_status(end: SessionEnd) -> u8
+    ensures { result ≡ session_status end }
 {
-    match served {
-        Served::Closed => 0,
-        Served::Unread(_) => 3,
-        Served::Cut(_) => 3,
-        Served::Spent(_) => 3,
-        Served::ReadFailed => 4,
-        Served::WriteFailed => 4,
-        Served::DiskFailed => 5,
-        Served::Damaged => 7,
-        Served::NoMemory => 6,
+    match end {
+        SessionEnd::Closed => 0,
+        SessionEnd::Unread(_) | SessionEnd::Cut(_) | SessionEnd::Spent(_) => 3,
+        SessionEnd::ReadFailed | SessionEnd::WriteFailed => 4,
+        SessionEnd::DiskFailed => 5,
+        SessionEnd::NoMemory => 6,
+        SessionEnd::Damaged => 7,
     }
 }
 
@@ -215,12 +218,9 @@ fn open_status(fault: OpenFault) -> u8
     ensures { result ≡ open_status fault }
 {
     match fault {
-        OpenFault::NotMade => 2,
-        OpenFault::Corrupt { .. } => 2,
-        OpenFault::BadVersion { .. } => 2,
-        OpenFault::Unsound { .. } => 2,
         OpenFault::DiskFailed => 5,
         OpenFault::NoMemory => 6,
+        _ => 2,
     }
 }
 
@@ -228,38 +228,31 @@ fn refused_status(fault: StoreFault) -> u8
     ensures { result ≡ refused_status fault }
 {
     match fault {
-        StoreFault::NoMemory => 6,
         StoreFault::DiskFailed => 5,
-        StoreFault::Broken { .. } => 8,
-        StoreFault::UnknownSpace => 8,
-        StoreFault::NotFound => 8,
-        StoreFault::NotFinalised => 8,
-        StoreFault::NotPending => 8,
-        StoreFault::Full { .. } => 8,
-        StoreFault::HistoryFull { .. } => 8,
-        StoreFault::Damaged { .. } => 8,
+        StoreFault::NoMemory => 6,
+        _ => 8,
     }
 }
 
-fn status_of(ended: &Ended) -> u8
-    ensures { result ≡ status_of ended.now }
+fn status_of(end: &CommandEnd) -> u8
+    ensures { result ≡ status_of end.now }
 {
-    match ended {
-        Ended::Usage => 1,
-        Ended::Unopened(fault) => open_status(*fault),
-        Ended::Replayed(served) => served_status(*served),
-        Ended::Uncreated(fault) => open_status(*fault),
-        Ended::Unmade(fault) => refused_status(*fault),
-        Ended::Made => 0,
-        Ended::Untold => 4,
+    match end {
+        CommandEnd::Usage => 1,
+        CommandEnd::Unopened(fault) => open_status(*fault),
+        CommandEnd::Replayed(end) => session_status(*end),
+        CommandEnd::Uncreated(fault) => open_status(*fault),
+        CommandEnd::Unmade(fault) => refused_status(*fault),
+        CommandEnd::Made => 0,
+        CommandEnd::Untold => 4,
     }
 }
 
 /// Notes how a command ended, and gives its status. A note that can't be written changes nothing else.
-pub fn report<N: Sink>(notes: &mut N, ended: Ended) -> u8
-    ensures status { result ≡ status_of ended }
-    ensures noted { Noted (N.written notes.old) (N.written notes.new) (N.faults notes.old) (N.faults notes.new) (note_of ended) }
+pub fn report<N: Sink>(notes: &mut N, end: CommandEnd) -> u8
+    ensures status { result ≡ status_of end }
+    ensures noted { Noted (effect N.written N.faults notes.old notes.new) (note_of end) }
 {
-    let _ = write_end(notes, &ended);
-    status_of(&ended)
+    let _ = write_end(notes, &end);
+    status_of(&end)
 }

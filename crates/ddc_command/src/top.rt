@@ -2,20 +2,25 @@
 ghost use Rattle.std.specs.Prelude.{◌≡◌, ◌≢◌, ◌⊎◌, ◌↔◌, None, IfOk, IfErr, string_bytes, true};
 ghost use Rattle.ddc_disk.specs.declared.devices.Devices.{Devices};
 ghost use Rattle.ddc_model.specs.Entries.{is_time};
-ghost use Rattle.ddc_command.specs.Top.{Ends, EndsFor, EndsInit, EndsReplay, FailsToOpen, Finds, Noted, is_unmade, made_line, note_of, status_of};
-ghost use Rattle.ddc_command.specs.Words.{AreTimes, form_in, form_of};
-ghost use Rattle.ddc_command.specs.declared.end.Ended.{Ended};
+ghost use Rattle.ddc_service.specs.Effects.{effect};
+ghost use Rattle.ddc_command.specs.declared.end.CommandEnd.{CommandEnd};
+ghost use Rattle.ddc_command.specs.declared.command.Command.TheVariants.{Replay};
+ghost use Rattle.ddc_command.specs.Words.{command_of};
+ghost use Rattle.ddc_command.specs.Notes.{note_of, status_of};
+ghost use Rattle.ddc_command.specs.Ends.{Ends, Noted, made_line, scene};
+ghost use Rattle.ddc_command.specs.inside.Times.{AreTimes};
+ghost use Rattle.ddc_command.specs.inside.Parts.{EndsFor, EndsInit, FailsToOpen, OpensOrMakes, is_unmade};
 
-use crate::end::Ended;
-use crate::form::Asked;
+use crate::command::Command;
+use crate::end::CommandEnd;
 use crate::notes::report;
-use crate::session::run_session;
-use crate::words::asked;
+use crate::words::command_of;
 use ddc_book::{Book, OpenFault, StoreFault};
 use ddc_disk::{Devices, Disk};
 use ddc_link::{Clock, Sink, Source, put_all};
 use ddc_model::Limits;
 use ddc_names::{Namespace, NoMemory};
+use ddc_service::replay_session;
 use std::alloc::Global;
 
 // Answers a stream from the store that the devices hold.
@@ -25,32 +30,18 @@ fn replay<D: Disk, S: Source, W: Sink, C: Clock>(
     source: &mut S,
     sink: &mut W,
     clock: &C,
-) -> (Ended, Devices<D>)
-    ensures ends { EndsReplay (record {
-      tells = D.tells;
-      meaning = D.meaning;
-      old = devices;
-      new = result.1;
-      hour = C.tells clock.now;
-      input = S.left source.old;
-      left = S.left source.new;
-      from = W.written sink.old;
-      to = W.written sink.new;
-      reads_before = S.faults source.old;
-      reads_now = S.faults source.new;
-      writes_before = W.faults sink.old;
-      writes_now = W.faults sink.new;
-    }) result.0 }
+) -> (CommandEnd, Devices<D>)
+    ensures ends { EndsFor (scene D.tells D.meaning devices result.1 (C.tells clock.now) (effect S.left S.faults source.old source.new) (effect W.written W.faults sink.old sink.new)) Replay result.0 }
     ensures untouched { status_of result.0 ≡ 2 → (source.new ≡ source.old) × (sink.new ≡ sink.old) }
     ensures not_usage { status_of result.0 ≢ 1 }
 {
     match Book::load(alloc, devices, Limits::standard()) {
         Ok(book) => {
             let mut book = book;
-            let served = run_session(alloc, source, &mut book, clock, sink);
-            (Ended::Replayed(served), book.into_devices())
+            let end = replay_session(alloc, &mut book, source, sink, clock);
+            (CommandEnd::Replayed(end), book.into_devices())
         }
-        Err((devices, fault)) => (Ended::Unopened(fault), devices),
+        Err((devices, fault)) => (CommandEnd::Unopened(fault), devices),
     }
 }
 
@@ -60,28 +51,27 @@ fn is_unmade(fault: &OpenFault) -> bool
 {
     match fault {
         OpenFault::NotMade => true,
-        OpenFault::Corrupt { .. } => false,
-        OpenFault::BadVersion { .. } => false,
-        OpenFault::Unsound { .. } => false,
-        OpenFault::DiskFailed => false,
-        OpenFault::NoMemory => false,
+        _ => false,
     }
 }
 
 // The store that the devices hold, or an empty one where none was made.
-fn found_store<D: Disk>(alloc: Global, devices: Devices<D>) -> Result<Book<D>, (Devices<D>, Ended)>
-    ensures found { IfOk result (λ book. Finds D.tells D.meaning devices book) }
+fn found_store<D: Disk>(
+    alloc: Global,
+    devices: Devices<D>,
+) -> Result<Book<D>, (Devices<D>, CommandEnd)>
+    ensures found { IfOk result (λ book. OpensOrMakes D.tells D.meaning devices book) }
     ensures fails { IfErr result (λ r. FailsToOpen D.tells D.meaning devices r.0 r.1) }
 {
     match Book::load(alloc, devices, Limits::standard()) {
         Ok(found) => Ok(found),
         Err((devices, fault)) => {
             if !is_unmade(&fault) {
-                return Err((devices, Ended::Unopened(fault)));
+                return Err((devices, CommandEnd::Unopened(fault)));
             }
             match Book::create(alloc, devices, Limits::standard()) {
                 Ok(book) => Ok(book),
-                Err((devices, fault)) => Err((devices, Ended::Uncreated(fault))),
+                Err((devices, fault)) => Err((devices, CommandEnd::Uncreated(fault))),
             }
         }
     }
@@ -102,23 +92,26 @@ fn make_space<D: Disk, W: Sink>(
     ttl: u32,
     pin: u32,
     sink: &mut W,
-) -> (Ended, Devices<D>)
+) -> (CommandEnd, Devices<D>)
     requires ttl { is_time ttl ≡ true }
     requires pin { is_time pin ≡ true }
-    ensures ends { (old : Devices D) → Finds D.tells D.meaning old book → EndsInit D.tells D.meaning old result.1 (W.written sink.old) (W.written sink.new) (W.faults sink.old) (W.faults sink.new) space.now ttl pin result.0 }
+    ensures ends { (old : Devices D) → OpensOrMakes D.tells D.meaning old book → EndsInit D.tells D.meaning old result.1 (effect W.written W.faults sink.old sink.new) space.now ttl pin result.0 }
     ensures opened { status_of result.0 ≢ 2 }
     ensures not_usage { status_of result.0 ≢ 1 }
 {
     let mut book = book;
     let Ok(line) = made_line(alloc, space.as_str(), ttl, pin) else {
-        return (Ended::Unmade(StoreFault::NoMemory), book.into_devices());
+        return (
+            CommandEnd::Unmade(StoreFault::NoMemory),
+            book.into_devices(),
+        );
     };
     if let Err(fault) = book.set_space(alloc, *space, ttl, pin) {
-        return (Ended::Unmade(fault), book.into_devices());
+        return (CommandEnd::Unmade(fault), book.into_devices());
     }
     match put_all(sink, line.as_bytes()) {
-        Ok(()) => (Ended::Made, book.into_devices()),
-        Err(_) => (Ended::Untold, book.into_devices()),
+        Ok(()) => (CommandEnd::Made, book.into_devices()),
+        Err(_) => (CommandEnd::Untold, book.into_devices()),
     }
 }
 
@@ -130,50 +123,36 @@ fn init<D: Disk, W: Sink>(
     ttl: u32,
     pin: u32,
     sink: &mut W,
-) -> (Ended, Devices<D>)
+) -> (CommandEnd, Devices<D>)
     requires ttl { is_time ttl ≡ true }
     requires pin { is_time pin ≡ true }
-    ensures ends { EndsInit D.tells D.meaning devices result.1 (W.written sink.old) (W.written sink.new) (W.faults sink.old) (W.faults sink.new) space.now ttl pin result.0 }
+    ensures ends { EndsInit D.tells D.meaning devices result.1 (effect W.written W.faults sink.old sink.new) space.now ttl pin result.0 }
     ensures untouched { status_of result.0 ≡ 2 → sink.new ≡ sink.old }
     ensures not_usage { status_of result.0 ≢ 1 }
 {
     match found_store(alloc, devices) {
         Ok(book) => make_space(alloc, book, space, ttl, pin, sink),
-        Err((devices, ended)) => (ended, devices),
+        Err((devices, end)) => (end, devices),
     }
 }
 
 // Does what was asked for.
-fn run_asked<D: Disk, S: Source, W: Sink, C: Clock>(
+fn run_command<D: Disk, S: Source, W: Sink, C: Clock>(
     alloc: Global,
-    asked: Asked,
+    command: Command,
     devices: Devices<D>,
     source: &mut S,
     sink: &mut W,
     clock: &C,
-) -> (Ended, Devices<D>)
-    requires { AreTimes asked }
-    ensures ends { EndsFor (record {
-      tells = D.tells;
-      meaning = D.meaning;
-      old = devices;
-      new = result.1;
-      hour = C.tells clock.now;
-      input = S.left source.old;
-      left = S.left source.new;
-      from = W.written sink.old;
-      to = W.written sink.new;
-      reads_before = S.faults source.old;
-      reads_now = S.faults source.new;
-      writes_before = W.faults sink.old;
-      writes_now = W.faults sink.new;
-    }) (form_in asked) result.0 }
+) -> (CommandEnd, Devices<D>)
+    requires { AreTimes command }
+    ensures ends { EndsFor (scene D.tells D.meaning devices result.1 (C.tells clock.now) (effect S.left S.faults source.old source.new) (effect W.written W.faults sink.old sink.new)) command result.0 }
     ensures untouched { status_of result.0 ≡ 2 → (source.new ≡ source.old) × (sink.new ≡ sink.old) }
     ensures not_usage { status_of result.0 ≢ 1 }
 {
-    match asked {
-        Asked::Replay => replay(alloc, devices, source, sink, clock),
-        Asked::Init { space, ttl, pin } => init(alloc, devices, &space, ttl, pin, sink),
+    match command {
+        Command::Replay => replay(alloc, devices, source, sink, clock),
+        Command::Init { space, ttl, pin } => init(alloc, devices, &space, ttl, pin, sink),
     }
 }
 
@@ -185,32 +164,18 @@ fn run_words<D: Disk, S: Source, W: Sink, C: Clock>(
     source: &mut S,
     sink: &mut W,
     clock: &C,
-) -> (Ended, Devices<D>)
-    ensures ends { Ends (record {
-      tells = D.tells;
-      meaning = D.meaning;
-      old = devices;
-      new = result.1;
-      hour = C.tells clock.now;
-      input = S.left source.old;
-      left = S.left source.new;
-      from = W.written sink.old;
-      to = W.written sink.new;
-      reads_before = S.faults source.old;
-      reads_now = S.faults source.new;
-      writes_before = W.faults sink.old;
-      writes_now = W.faults sink.new;
-    }) words.now result.0 }
-    ensures usage { (status_of result.0 ≡ 1) ↔ (form_of words.now ≡ None) }
+) -> (CommandEnd, Devices<D>)
+    ensures ends { Ends (scene D.tells D.meaning devices result.1 (C.tells clock.now) (effect S.left S.faults source.old source.new) (effect W.written W.faults sink.old sink.new)) words.now result.0 }
+    ensures usage { (status_of result.0 ≡ 1) ↔ (command_of words.now ≡ None) }
     ensures untouched { (status_of result.0 ≡ 1) ⊎ (status_of result.0 ≡ 2) → (source.new ≡ source.old) × (sink.new ≡ sink.old) }
 {
-    match asked(words) {
-        Some(asked) => run_asked(alloc, asked, devices, source, sink, clock),
-        None => (Ended::Usage, devices),
+    match command_of(words) {
+        Some(command) => run_command(alloc, command, devices, source, sink, clock),
+        None => (CommandEnd::Usage, devices),
     }
 }
 
-/// Does what the words ask for, and gives the exit status and the devices back. `words` are those behind the program's
+/// Does what the words ask for, and gives the exit status and the devices back. `words` are those after the program's
 /// name, and `devices` are those of the folder DIR, which the words only name.
 ///
 /// `init DIR NS TTL PIN` makes the namespace NS, which keeps references for TTL hours and blobs for PIN, in the store of
@@ -240,25 +205,11 @@ pub fn run_local<D: Disk, S: Source, W: Sink, N: Sink, C: Clock>(
     notes: &mut N,
     clock: &C,
 ) -> (u8, Devices<D>)
-    ensures ends { (ended : Ended) × Ends (record {
-      tells = D.tells;
-      meaning = D.meaning;
-      old = devices;
-      new = result.1;
-      hour = C.tells clock.now;
-      input = S.left source.old;
-      left = S.left source.new;
-      from = W.written sink.old;
-      to = W.written sink.new;
-      reads_before = S.faults source.old;
-      reads_now = S.faults source.new;
-      writes_before = W.faults sink.old;
-      writes_now = W.faults sink.new;
-    }) words.now ended
-        × (result.0 ≡ status_of ended) × Noted (N.written notes.old) (N.written notes.new) (N.faults notes.old) (N.faults notes.new) (note_of ended) }
-    ensures usage { (result.0 ≡ 1) ↔ (form_of words.now ≡ None) }
+    ensures ends { (end : CommandEnd) × Ends (scene D.tells D.meaning devices result.1 (C.tells clock.now) (effect S.left S.faults source.old source.new) (effect W.written W.faults sink.old sink.new)) words.now end
+        × (result.0 ≡ status_of end) × Noted (effect N.written N.faults notes.old notes.new) (note_of end) }
+    ensures usage { (result.0 ≡ 1) ↔ (command_of words.now ≡ None) }
     ensures untouched { (result.0 ≡ 1) ⊎ (result.0 ≡ 2) → (source.new ≡ source.old) × (sink.new ≡ sink.old) }
 {
-    let (ended, devices) = run_words(alloc, words, devices, source, sink, clock);
-    (report(notes, ended), devices)
+    let (end, devices) = run_words(alloc, words, devices, source, sink, clock);
+    (report(notes, end), devices)
 }

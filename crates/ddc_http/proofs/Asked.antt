@@ -4,12 +4,12 @@ use Rattle.ddc_names.specs.declared.hash.IoHash.{IoHash}
 use Rattle.ddc_names.specs.declared.reference.RefName.{RefName}
 use Rattle.tree_hash.specs.TreeHash.{io}
 use Rattle.ddc_model.specs.Content.{Content, IsContent}
-use Rattle.ddc_protocol.specs.declared.form.Form.TheVariants.{PutBlob, PutRef}
+use Rattle.ddc_protocol.specs.declared.request_form.RequestForm.TheVariants.{PutBlob, PutRef}
 use Rattle.ddc_protocol.specs.Fields.{same_text}
 use Rattle.ddc_protocol.specs.Requests.{Asks, put_blob, mismatch, stores, mismatches, breaks}
 use Rattle.ddc_http.specs.declared.request.HttpFault.{HttpFault}
-use Rattle.ddc_http.specs.declared.request.HttpFault.TheVariants.{Unread, Cut, HashMismatch, NotAnObject, ReadFailed, NoMemory}
-use Rattle.ddc_http.specs.Reader.{AskedAs, BreaksAs}
+use Rattle.ddc_http.specs.declared.request.HttpFault.TheVariants.{NotAnObject, NoMemory}
+use Rattle.ddc_http.specs.inside.Parts.{AskedAs, BreaksAs}
 
 -- a body of another hash
 pub mismatched : (space body : List ℕ) (hash found : IoHash) (size : ℕ) → found.0 ≡ io body → same_text found.0 hash.0 ≡ false → Asks body (PutBlob space hash size) (mismatch hash found)
@@ -27,9 +27,6 @@ matched space body hash found size content is same bytes read =
 
 -- a body that is no object
 pub broken : (name : RefName) (body : List ℕ) (size : ℕ) (fault : HttpFault) → BreaksAs body fault → AskedAs (PutRef name size) body (Err fault)
-broken name body size Unread h = absurd h
-broken name body size Cut h = absurd h
-broken name body size (HashMismatch named found) h = absurd h
 broken name body size (NotAnObject at) h = breaks h
-broken name body size ReadFailed h = absurd h
 broken name body size NoMemory h = tt
+broken name body size other h = absurd h

@@ -7,11 +7,11 @@ use Rattle.std.proofs.lemmas.Bool.Decides.{nat_tests}
 use Rattle.httparse.specs.Ascii.{line_feed, space}
 use Rattle.httparse.specs.Grammar.{RequestHead, print_request, print_blank, print_version, print_end, print_field, crlf, lf, HasNoRequest}
 use Rattle.httparse.specs.Spans.{RequestOverflows}
-use Rattle.ddc_protocol.specs.declared.form.Form.{Form}
+use Rattle.ddc_protocol.specs.declared.request_form.RequestForm.{RequestForm}
 use Rattle.ddc_protocol.specs.Requests.{HasNoHead, NeverHasHead}
-use Rattle.ddc_http.specs.Reader.{HeadAt, HeadOf, is_line_feed}
+use Rattle.ddc_http.specs.inside.Parts.{HeadAt, HeadOf, is_line_feed}
 
-pub head_at-widen : (window tail : List ℕ) (len : ℕ) (found : Option Form) → length window ≤ 16384 → HeadOf window len found → HeadAt (window ++ tail) len found
+pub head_at-widen : (window tail : List ℕ) (len : ℕ) (found : Option RequestForm) → length window ≤ 16384 → HeadOf window len found → HeadAt (window ++ tail) len found
 head_at-widen window tail len found small h = record {
   head = h.head;
   is_head = record { valid = h.valid; few = h.few; short = let e = h.long in let w = h.within in omega arith };
@@ -56,7 +56,7 @@ or_true : (b : Bool) → (b || true) ≡ true
 or_true true = refl
 or_true false = refl
 
--- where the bytes before a line feed go on behind a front, what follows the front has one
+-- where the bytes before a line feed go on after a front, what follows the front has one
 has_line_feed : (old piece front rest : List ℕ) → old ++ piece ≡ front ++ line_feed ∷ rest → length old ≤ length front → list_any is_line_feed piece ≡ true
 has_line_feed [] [] [] rest e fits = cc
 has_line_feed [] [] (y ∷ front) rest e fits = cc

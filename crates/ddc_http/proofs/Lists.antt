@@ -6,7 +6,7 @@ use Rattle.ddc_names.specs.declared.hash.IoHash.{IoHash}
 use Rattle.ddc_names.specs.Names.{hash_text}
 use Rattle.ddc_protocol.specs.Replies.{hash_list}
 use Rattle.ddc_model.specs.Commands.{needs_none}
-use Rattle.ddc_http.specs.Heads.{hash_entry}
+use Rattle.ddc_http.specs.inside.Entries.{hash_entry}
 
 pub hash_list-more : (hashes : List IoHash) (hash : IoHash) → hash_list (hashes ++ hash ∷ []) ≡ hash_list hashes ++ hash_entry (needs_none hashes) hash
 hash_list-more [] hash = refl

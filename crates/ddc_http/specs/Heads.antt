@@ -1,8 +1,6 @@
 -- The texts of a head and of a refusal, and the phrases of the statuses that the server answers.
-use Rattle.std.specs.Prelude.{◌≡◌, ℕ, Bool, true, false, List, [], ◌++◌, Some, codes, ⊤}
+use Rattle.std.specs.Prelude.{◌≡◌, ℕ, List, [], Some, codes, ⊤}
 use Rattle.http.specs.StatusCode.{reason_phrase}
-use Rattle.ddc_names.specs.declared.hash.IoHash.{IoHash}
-use Rattle.ddc_names.specs.Names.{hash_text}
 use Rattle.ddc_protocol.specs.Replies.{head_text, json, octets, compact, error_body, mismatch_body, not_object_body}
 use Rattle.ddc_http.specs.declared.reply.ErrorCode.{ErrorCode}
 use Rattle.ddc_http.specs.declared.reply.ErrorCode.TheVariants.{Unread, NotFound, UnknownNamespace, NotFinalised, NotPending, DiskFailed, Broken}
@@ -32,28 +30,19 @@ code_text NotPending = codes "not_pending"
 code_text DiskFailed = codes "disk_failed"
 code_text Broken = codes "broken"
 
--- a hash in a list, with a comma before it unless it is the first
-abbrev pub hash_entry : Bool → IoHash → List ℕ
-hash_entry true hash = codes "\"" ++ hash_text hash ++ codes "\""
-hash_entry false hash = codes ",\"" ++ hash_text hash ++ codes "\""
-
 -- the faults that get a reply
 abbrev pub IsAnswered : HttpFault → Type 0
 IsAnswered TheVariants.Unread = ⊤
 IsAnswered (TheVariants.HashMismatch named found) = ⊤
 IsAnswered (TheVariants.NotAnObject at) = ⊤
-IsAnswered TheVariants.Cut = ⊥
-IsAnswered TheVariants.ReadFailed = ⊥
-IsAnswered TheVariants.NoMemory = ⊥
+IsAnswered other = ⊥
 
 -- the body of that reply
 abbrev pub fault_text : HttpFault → List ℕ
 fault_text TheVariants.Unread = error_body (codes "unread")
 fault_text (TheVariants.HashMismatch named found) = mismatch_body named found
 fault_text (TheVariants.NotAnObject at) = not_object_body at
-fault_text TheVariants.Cut = []
-fault_text TheVariants.ReadFailed = []
-fault_text TheVariants.NoMemory = []
+fault_text other = []
 
 -- the phrases of RFC 9110, section 15, for the statuses that the server answers
 pub record StatusPhrases : Type 0 where

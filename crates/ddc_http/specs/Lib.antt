@@ -1,4 +1,5 @@
 pub mod Heads
-pub mod Values
+pub mod Flows
 pub mod Reader
 pub mod Stream
+pub mod inside

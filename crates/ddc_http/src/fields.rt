@@ -1,11 +1,15 @@
 // The fields of a request head.
 ghost use Rattle.std.specs.Prelude.{◌≡◌, ℕ, List, ◌∷◌, length, map, All, codes};
 ghost use Rattle.httparse.specs.Spans.{IsHeaderWithin, header_bytes};
-ghost use Rattle.ddc_protocol.specs.Fields.{same_name, values_of, number};
-ghost use Rattle.ddc_protocol.specs.Form.{is_empty, is_without_body, is_of_type, put_length};
-ghost use Rattle.ddc_http.specs.Values.{AreValues};
+ghost use Rattle.ddc_protocol.specs.Fields.{same_name, values_of};
+ghost use Rattle.ddc_protocol.specs.HeadForms.{is_empty, is_without_body, is_of_type, put_length};
+ghost use Rattle.ddc_http.specs.inside.Values.{AreValues};
 
+use ddc_protocol::decimal_value;
 use httparse::spans::HeaderSpan;
+
+/// The most digits of a length.
+const MOST_DIGITS: usize = 19;
 
 // The values of the fields of one name.
 #[derive(Clone, Copy)]
@@ -48,23 +52,6 @@ fn values_of<'a>(buf: &'a [u8], headers: &[HeaderSpan], name: &[u8]) -> Values<'
     }
 }
 
-/// 1 to 19 digits.
-fn number_of(text: &[u8]) -> Option<u64>
-    ensures { result ≡ number text.now }
-{
-    if text.is_empty() || text.len() > 19 {
-        return None;
-    }
-    let mut value: u64 = 0;
-    for digit in text {
-        if !digit.is_ascii_digit() {
-            return None;
-        }
-        value = value * 10 + (*digit - b'0') as u64;
-    }
-    Some(value)
-}
-
 // Whether no field has the name.
 pub fn is_absent(buf: &[u8], headers: &[HeaderSpan], name: &[u8]) -> bool
     requires { All (IsHeaderWithin (length buf.now)) headers.now }
@@ -80,7 +67,7 @@ pub fn put_length(most: u64, buf: &[u8], headers: &[HeaderSpan]) -> Option<u64>
 {
     match values_of(buf, headers, b"content-length") {
         Values::Once(value) => {
-            let size = number_of(value)?;
+            let size = decimal_value(value, MOST_DIGITS)?;
             if size <= most { Some(size) } else { None }
         }
         _ => None,

@@ -1,8 +1,8 @@
 // Where the head of a request ends.
-ghost use Rattle.ddc_http.specs.Reader.{Finds, FindsIn};
+ghost use Rattle.ddc_http.specs.inside.Parts.{FindsHead, FindsHeadIn};
 
-use crate::form::form_of;
-use ddc_protocol::Form;
+use crate::head_form::request_form;
+use ddc_protocol::RequestForm;
 use httparse::Status;
 use httparse::spans::{EMPTY_HEADER_SPAN, parse_request};
 
@@ -19,17 +19,17 @@ pub enum Found {
     /// No head, whatever follows.
     Never,
     /// A head of so many bytes, and what it asks for.
-    Head(usize, Option<Form>),
+    Head(usize, Option<RequestForm>),
 }
 
 // The head at the front of a window of the bytes.
 fn head_in(window: &[u8]) -> Found
-    ensures { FindsIn window.now result }
+    ensures { FindsHeadIn window.now result }
 {
     let mut headers = [EMPTY_HEADER_SPAN; MOST_FIELDS];
     match parse_request(window, &mut headers) {
         Ok(Status::Complete(head)) => {
-            let form = form_of(
+            let form = request_form(
                 head.method.of(window),
                 head.path.of(window),
                 window,
@@ -44,7 +44,7 @@ fn head_in(window: &[u8]) -> Found
 
 /// The head at the front, or whether one can still come.
 pub fn find_head(bytes: &[u8]) -> Found
-    ensures { Finds bytes.now result }
+    ensures { FindsHead bytes.now result }
 {
     let window = &bytes[..bytes.len().min(MOST_HEAD)];
     match head_in(window) {

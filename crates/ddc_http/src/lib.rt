@@ -2,16 +2,14 @@
 #![tactic(auto)]
 
 mod fields;
-mod form;
 mod head;
+mod head_form;
 mod reader;
-#[cfg(test)]
-mod reader_tests;
 mod reply;
-#[cfg(test)]
-mod reply_tests;
 mod request;
 mod stream;
+#[cfg(test)]
+mod tests;
 
 pub use reply::{
     ErrorCode, Head, Kind, WriteFault, damaged_body, error_body, fault_body, full_body,

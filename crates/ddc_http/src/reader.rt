@@ -1,18 +1,17 @@
 // Requests taken from what is held and from a source.
-ghost use Rattle.std.specs.Prelude.{◌≡◌, ◌≤◌, ◌<◌, ◌+◌, ◌-◌, ◌^◌, min, length, vec_len, drop, true};
-ghost use Rattle.std.specs.Io.KnownBytes.{prepend_known};
-ghost use Rattle.ddc_names.specs.Causes.{Rose};
+ghost use Rattle.std.specs.Prelude.{◌≡◌, ◌⊎◌, IfOk, IsSome, ◌≤◌, ◌<◌, ◌+◌, ◌-◌, ◌^◌, min, length, vec_len, drop, true};
 ghost use Rattle.cb_fields.specs.Language.{IsNoObject};
 ghost use Rattle.ddc_protocol.specs.Requests.{HasNoHead};
-ghost use Rattle.ddc_protocol.specs.declared.form.Form.TheVariants.{PutBlob, PutRef};
-ghost use Rattle.ddc_http.specs.Reader.{FillsAs, HeadsAs, HeadAt, BodyAs, BodyAt, HasItem, AskedAs, BreaksAs, Answers};
+ghost use Rattle.ddc_protocol.specs.declared.request_form.RequestForm.TheVariants.{PutBlob, PutRef};
+ghost use Rattle.ddc_http.specs.Reader.{FaultsAs, HasRequestText, ReadsNext, TakesPieces, stream_ahead};
+ghost use Rattle.ddc_http.specs.inside.Parts.{AskedAs, BodyAs, BodyAt, BreaksAs, FillsAs, FillsBy, HeadAt, HeadsAs, HoldsPieces};
 
 use crate::head::{Found, MOST_HEAD, find_head};
 use crate::request::{Ask, HttpFault, Request};
 use cb_fields::{CbFault, check_object};
 use ddc_link::Source;
 use ddc_names::{IoHash, Namespace, RefName};
-use ddc_protocol::Form;
+use ddc_protocol::RequestForm;
 use ddc_state::Checked;
 use io_hash::{Intake, IntakeFault, Whole};
 use std::alloc::Global;
@@ -26,10 +25,10 @@ const BODY_PIECE: usize = 65_536;
 // at the end of the source.
 fn fill<S: Source>(source: &mut S, held: &mut Vec<u8>) -> Result<bool, HttpFault>
     requires { HasNoHead held.old.items }
-    ensures gives { FillsAs (prepend_known held.old.items (S.left source.old)) (prepend_known held.new.items (S.left source.new)) (S.left source.new) held.new.items result }
+    ensures gives { FillsAs (stream_ahead held.old.items (S.left source.old)) (stream_ahead held.new.items (S.left source.new)) result }
+    ensures pieces { FillsBy (stream_ahead held.old.items (S.left source.old)) (stream_ahead held.new.items (S.left source.new)) result }
     ensures grows { result ≡ Ok true → length held.old.items < length held.new.items }
-    ensures later { S.faults source.old ≤ S.faults source.new }
-    ensures cause { result ≡ Err HttpFault.ReadFailed → Rose (S.faults source.old) (S.faults source.new) }
+    ensures faults { FaultsAs (S.faults source.old) (S.faults source.new) result }
 {
     'pieces: loop {
         let mut piece = [0; HEAD_PIECE];
@@ -52,11 +51,12 @@ fn fill<S: Source>(source: &mut S, held: &mut Vec<u8>) -> Result<bool, HttpFault
 fn read_head<S: Source>(
     source: &mut S,
     held: &mut Vec<u8>,
-) -> Result<Option<(usize, Form)>, HttpFault>
-    ensures gives { HeadsAs (prepend_known held.old.items (S.left source.old)) (prepend_known held.new.items (S.left source.new)) (S.left source.new) held.new.items result }
-    ensures ready { HasItem held.old.items → (source.new ≡ source.old) × (held.new ≡ held.old) }
-    ensures later { S.faults source.old ≤ S.faults source.new }
-    ensures cause { result ≡ Err HttpFault.ReadFailed → Rose (S.faults source.old) (S.faults source.new) }
+) -> Result<Option<(usize, RequestForm)>, HttpFault>
+    ensures gives { HeadsAs (stream_ahead held.old.items (S.left source.old)) (stream_ahead held.new.items (S.left source.new)) result }
+    ensures ready { HasRequestText held.old.items → (source.new ≡ source.old) × (held.new ≡ held.old) }
+    ensures pieces { (source.new ≡ source.old) ⊎ TakesPieces held.old.items (S.left source.old) (S.left source.new) }
+    ensures found { IfOk result (λ found. IsSome found → ((source.new ≡ source.old) × (held.new ≡ held.old)) ⊎ HoldsPieces held.old.items held.new.items (S.left source.old) (S.left source.new)) }
+    ensures faults { FaultsAs (S.faults source.old) (S.faults source.new) result }
 {
     'pieces: loop {
         match find_head(held) {
@@ -87,7 +87,7 @@ fn drop_front(held: &mut Vec<u8>, count: usize)
     held.truncate(kept);
 }
 
-// Takes the head away, and the body behind it as it comes.
+// Takes the head away, and the body after it as it comes.
 fn take_body<S: Source>(
     alloc: Global,
     source: &mut S,
@@ -96,10 +96,10 @@ fn take_body<S: Source>(
     size: usize,
 ) -> Result<Whole, HttpFault>
     requires body { BodyAt held.old.items len size }
-    ensures gives { BodyAs (prepend_known held.old.items (S.left source.old)) (prepend_known held.new.items (S.left source.new)) (S.left source.new) held.old.items len size result }
+    ensures gives { BodyAs (stream_ahead held.old.items (S.left source.old)) (stream_ahead held.new.items (S.left source.new)) len size result }
     ensures ready { len + size ≤ length held.old.items → source.new ≡ source.old }
-    ensures later { S.faults source.old ≤ S.faults source.new }
-    ensures cause { result ≡ Err HttpFault.ReadFailed → Rose (S.faults source.old) (S.faults source.new) }
+    ensures pieces { (source.new ≡ source.old) ⊎ TakesPieces held.old.items (S.left source.old) (S.left source.new) }
+    ensures faults { FaultsAs (S.faults source.old) (S.faults source.new) result }
 {
     let first = size.min(held.len() - len);
     let mut intake = Intake::new(alloc, size as u64);
@@ -129,7 +129,7 @@ fn take_body<S: Source>(
 }
 
 // The request to store a body, where it has the hash named. Only then is it read.
-fn stored(
+fn blob_request(
     alloc: Global,
     space: Namespace,
     named: IoHash,
@@ -162,7 +162,7 @@ fn not_an_object(alloc: Global, body: &[u8]) -> HttpFault
 }
 
 // The request to put a body under a reference, where it is an object.
-fn put(alloc: Global, name: RefName, body: Whole) -> Result<Option<Request>, HttpFault>
+fn object_request(alloc: Global, name: RefName, body: Whole) -> Result<Option<Request>, HttpFault>
     ensures { AskedAs (PutRef name (length body)) body result }
 {
     match Checked::new(alloc, body) {
@@ -179,7 +179,7 @@ fn put(alloc: Global, name: RefName, body: Whole) -> Result<Option<Request>, Htt
     }
 }
 
-// The place behind a head and its body.
+// The place after a head and its body.
 fn place_after(place: u64, len: usize, size: u64) -> u64
     ensures { result ≡ min (place + len + size) (2 ^ 64 - 1) }
 {
@@ -203,44 +203,44 @@ fn take_request<S: Source>(
     held: &mut Vec<u8>,
     place: &mut u64,
     len: usize,
-    form: Form,
+    form: RequestForm,
 ) -> Result<Option<Request>, HttpFault>
     requires head { HeadAt held.old.items len (Some form) }
-    ensures gives { Answers (prepend_known held.old.items (S.left source.old)) (prepend_known held.new.items (S.left source.new)) (S.left source.new) place.old place.new result }
-    ensures ready { HasItem held.old.items → source.new ≡ source.old }
-    ensures later { S.faults source.old ≤ S.faults source.new }
-    ensures cause { result ≡ Err HttpFault.ReadFailed → Rose (S.faults source.old) (S.faults source.new) }
+    ensures gives { ReadsNext (stream_ahead held.old.items (S.left source.old)) (stream_ahead held.new.items (S.left source.new)) place.old place.new result }
+    ensures ready { HasRequestText held.old.items → source.new ≡ source.old }
+    ensures pieces { (source.new ≡ source.old) ⊎ TakesPieces held.old.items (S.left source.old) (S.left source.new) }
+    ensures faults { FaultsAs (S.faults source.old) (S.faults source.new) result }
 {
     match form {
-        Form::PutBlob(space, named, size) => {
+        RequestForm::PutBlob(space, named, size) => {
             match take_body(alloc, source, held, len, size as usize) {
                 Err(fault) => Err(fault),
                 Ok(body) => {
                     *place = place_after(*place, len, size);
-                    stored(alloc, space, named, body)
+                    blob_request(alloc, space, named, body)
                 }
             }
         }
-        Form::PutRef(name, size) => {
+        RequestForm::PutRef(name, size) => {
             match take_body(alloc, source, held, len, size as usize) {
                 Err(fault) => Err(fault),
                 Ok(body) => {
                     *place = place_after(*place, len, size);
-                    put(alloc, name, body)
+                    object_request(alloc, name, body)
                 }
             }
         }
-        Form::GetBlob(space, hash) => {
+        RequestForm::GetBlob(space, hash) => {
             pass_head(held, place, len);
             let ask = Ask::GetBlob { space, hash };
             Ok(Some(Request { ask }))
         }
-        Form::GetRef(name) => {
+        RequestForm::GetRef(name) => {
             pass_head(held, place, len);
             let ask = Ask::GetRef { name };
             Ok(Some(Request { ask }))
         }
-        Form::Finalise(name, hash) => {
+        RequestForm::Finalise(name, hash) => {
             pass_head(held, place, len);
             let ask = Ask::Finalise { name, hash };
             Ok(Some(Request { ask }))
@@ -255,10 +255,10 @@ pub fn next_request<S: Source>(
     held: &mut Vec<u8>,
     place: &mut u64,
 ) -> Result<Option<Request>, HttpFault>
-    ensures gives { Answers (prepend_known held.old.items (S.left source.old)) (prepend_known held.new.items (S.left source.new)) (S.left source.new) place.old place.new result }
-    ensures ready { HasItem held.old.items → source.new ≡ source.old }
-    ensures later { S.faults source.old ≤ S.faults source.new }
-    ensures cause { result ≡ Err HttpFault.ReadFailed → Rose (S.faults source.old) (S.faults source.new) }
+    ensures gives { ReadsNext (stream_ahead held.old.items (S.left source.old)) (stream_ahead held.new.items (S.left source.new)) place.old place.new result }
+    ensures ready { HasRequestText held.old.items → source.new ≡ source.old }
+    ensures pieces { (source.new ≡ source.old) ⊎ TakesPieces held.old.items (S.left source.old) (S.left source.new) }
+    ensures faults { FaultsAs (S.faults source.old) (S.faults source.new) result }
 {
     match read_head(source, held) {
         Err(fault) => Err(fault),

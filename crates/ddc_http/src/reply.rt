@@ -1,15 +1,14 @@
 // The heads and bodies of replies.
-ghost use Rattle.std.specs.Prelude.{◌≡◌, ◌≤◌, ◌++◌, codes, string_bytes, IfOk, IsSome, OnOk, option_map};
-ghost use Rattle.std.specs.Io.KnownBytes.{Appends, Keeps};
+ghost use Rattle.std.specs.Prelude.{◌≡◌, ◌++◌, codes, string_bytes, IfOk, IsSome, OnOk, option_map};
 ghost use Rattle.http.specs.StatusCode.{reason_phrase};
 ghost use Rattle.hex.specs.Hex.{encode_lower};
 ghost use Rattle.json.specs.Print.{escape};
 ghost use Rattle.serde_json.specs.Data.{string, unsigned, number, object, member, no_members};
 ghost use Rattle.serde_json.specs.View.{view};
-ghost use Rattle.ddc_names.specs.Causes.{Rose};
-ghost use Rattle.ddc_link.specs.Writes.{AppendsFront};
 ghost use Rattle.ddc_protocol.specs.Replies.{head_text, hash_line, close_line, opening_text, ending_text, identifier_body, error_body, mismatch_body, not_object_body, what_text, full_body, history_full_body, damaged_body, needs_body};
-ghost use Rattle.ddc_http.specs.Heads.{kind_text, text_of, code_text, hash_entry, IsAnswered, fault_text, StatusPhrases};
+ghost use Rattle.ddc_http.specs.Flows.{WritesText, flow};
+ghost use Rattle.ddc_http.specs.Heads.{kind_text, text_of, code_text, IsAnswered, fault_text, StatusPhrases};
+ghost use Rattle.ddc_http.specs.inside.Entries.{hash_entry};
 
 use crate::request::HttpFault;
 use ddc_link::{Sink, put_all};
@@ -164,11 +163,7 @@ fn head_text(alloc: Global, head: &Head) -> Result<String, AllocError>
 /// head could not be built, and then nothing was written.
 pub fn write_head<W: Sink>(alloc: Global, sink: &mut W, head: &Head) -> Result<(), WriteFault>
     requires { IsSome (reason_phrase head.now.status) }
-    ensures ok { OnOk result (Appends (W.written sink.old) (W.written sink.new) (text_of head.now)) }
-    ensures failed { result ≡ Err WriteFault.Failed → AppendsFront (W.written sink.old) (W.written sink.new) (text_of head.now) }
-    ensures cause { result ≡ Err WriteFault.Failed → Rose (W.faults sink.old) (W.faults sink.new) }
-    ensures no_memory { result ≡ Err WriteFault.NoMemory → Keeps (W.written sink.old) (W.written sink.new) }
-    ensures later { W.faults sink.old ≤ W.faults sink.new }
+    ensures { WritesText (flow (W.written sink.old) (W.faults sink.old)) (flow (W.written sink.new) (W.faults sink.new)) (text_of head.now) result }
 {
     let Ok(text) = head_text(alloc, head) else {
         return Err(WriteFault::NoMemory);

@@ -1,9 +1,7 @@
 // A reader of the requests of one stream.
-ghost use Rattle.std.specs.Prelude.{◌≡◌, ◌≤◌, [], false, IfOk};
-ghost use Rattle.std.specs.Io.KnownBytes.{prepend_known};
-ghost use Rattle.ddc_names.specs.Causes.{Rose};
-ghost use Rattle.ddc_http.specs.Reader.{Answers, HasItem};
-ghost use Rattle.ddc_http.specs.Stream.{EndedAs, source_of, held_of, place_of, has_ended};
+ghost use Rattle.std.specs.Prelude.{◌≡◌, ◌⊎◌, [], false, IfOk};
+ghost use Rattle.ddc_http.specs.Reader.{FaultsAs, HasRequestText, ReadsNext, TakesPieces};
+ghost use Rattle.ddc_http.specs.Stream.{EndedAs, ahead_of, source_of, held_of, place_of, has_ended};
 
 use crate::reader::next_request;
 use crate::request::{HttpFault, Request};
@@ -14,7 +12,7 @@ use std::alloc::Global;
 /// The bytes that a new reader has room for.
 const ROOM: usize = 8_192;
 
-/// Reads the requests of a source, one behind another.
+/// Reads the requests of a source, one after another.
 pub struct RequestReader<'a, S: Source> {
     source: &'a mut S,
     held: Vec<u8>,
@@ -53,17 +51,16 @@ impl<'a, S: Source> RequestReader<'a, S> {
     /// # Errors
     ///
     /// `HashMismatch` where the body has another hash than the one named, and `NotAnObject` where an
-    /// object is put and the body is none; the reader then goes on behind it. Every other fault ends
+    /// object is put and the body is none; the reader then goes on after it. Every other fault ends
     /// the reader.
     pub fn next(&mut self) -> Result<Option<Request>, HttpFault>
         requires { has_ended self.old ≡ false }
         ensures same_reference { self.new.source.ghost_name ≡ self.old.source.ghost_name }
-        ensures gives { Answers (prepend_known (held_of self.old) (S.left (source_of self.old))) (prepend_known (held_of self.new) (S.left (source_of self.new)))
-            (S.left (source_of self.new)) (place_of self.old) (place_of self.new) result }
-        ensures ready { HasItem (held_of self.old) → source_of self.new ≡ source_of self.old }
+        ensures gives { ReadsNext (ahead_of S.left self.old) (ahead_of S.left self.new) (place_of self.old) (place_of self.new) result }
+        ensures ready { HasRequestText (held_of self.old) → source_of self.new ≡ source_of self.old }
+        ensures pieces { (source_of self.new ≡ source_of self.old) ⊎ TakesPieces (held_of self.old) (S.left (source_of self.old)) (S.left (source_of self.new)) }
         ensures ended { EndedAs result (has_ended self.new) }
-        ensures later { S.faults (source_of self.old) ≤ S.faults (source_of self.new) }
-        ensures cause { result ≡ Err HttpFault.ReadFailed → Rose (S.faults (source_of self.old)) (S.faults (source_of self.new)) }
+        ensures faults { FaultsAs (S.faults (source_of self.old)) (S.faults (source_of self.new)) result }
     {
         let result = next_request(self.alloc, self.source, &mut self.held, &mut self.place);
         self.ended = match &result {

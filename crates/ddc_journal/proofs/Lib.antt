@@ -1,6 +1,10 @@
 mod Parts
 mod Spelling
+mod Ranks
 mod Append
 mod Making
 mod Reading
 mod Once
+mod PairLent
+mod Pairing
+mod PairOnce

@@ -1,14 +1,15 @@
 -- A file is at most one journal, or has one fault.
-use Rattle.std.proofs.Common.{◌≡◌, ◌≢◌, inl, inr, ℕ, ◌<◌, ◌≤◌, ◌^◌, List, [], ◌∷◌, ◌++◌, length, take, drop, refl, sym, ◌∙◌, ap, arith, append_assoc, length-append}
+use Rattle.std.proofs.Common.{◌≡◌, ◌≢◌, inl, inr, ℕ, ◌<◌, ◌≤◌, ◌^◌, List, [], ◌∷◌, ◌++◌, length, take, drop, refl, sym, ◌∙◌, ap, subst, arith, append_assoc, length-append}
 use Rattle.std.specs.Prelude.{true, false, slice_index}
 use Rattle.std.specs.Int.{to_le_bytes, from_le_bytes, w32}
 use Rattle.std.proofs.lemmas.Nat.{from_le_bytes-to_le_bytes_4, from_le_bytes-to_le_bytes_8}
-use Rattle.std.proofs.lemmas.List.{take_at, drop_at}
-use Rattle.ddc_journal.specs.Journal.{magic, framed, items, header, spelled, AreSized, Loads, version_in, generation_in, is_made}
-use Rattle.ddc_journal.specs.Faults.{LacksItem, IsCorrupt}
-use Rattle.ddc_journal.specs.Laws.{OneLoading, LoadsOrFails, OneFileFault}
+use Rattle.std.proofs.lemmas.List.{take_at, drop_at, length-take}
+use Rattle.ddc_journal.specs.Journal.{magic, framed, items, head_bytes, journal_bytes, single_version, AreSized, IsJournal, version_in, generation_in, is_made}
+use Rattle.ddc_journal.specs.Faults.{single_kind, BreaksAt, IsCorrupt, IsKnown, LacksItem}
+use Rattle.ddc_journal.specs.Laws.{JournalOrFault, LoadsOrFails, OneFaultOfKind, OneFileFault, OneJournal, OneLoading}
+use Rattle.ddc_journal.specs.declared.kind.FileKind.{FileKind}
 use Rattle.ddc_journal.specs.declared.fault.JournalFault.TheVariants.{DiskFailed, NotMade, Corrupt, BadVersion, NoMemory}
-use Rattle.ddc_journal.proofs.Reading.{made}
+use Rattle.ddc_journal.proofs.Ranks.{made}
 
 -- the first of two bytes lists is the same
 first_byte : (a b : ℕ) (xs ys : List ℕ) → a ∷ xs ≡ b ∷ ys → a ≡ b
@@ -51,91 +52,122 @@ same_items (b ∷ bs) (c ∷ cs) g h r s sized_b sized_c none_g none_h e =
 closed_none : (g : ℕ) (r : List ℕ) → g ≢ 1 → LacksItem (g ∷ r)
 closed_none g r closed body gate rest small e = closed (first_byte g 1 r (framed body ++ gate ∷ rest) e)
 
--- what a file of this spelling has
-module _ (file : List ℕ) (generation : ℕ) (bodies : List (List ℕ)) (gate : ℕ) (rest : List ℕ) (split : file ≡ spelled generation bodies ++ gate ∷ rest) where
-  behind_head : drop 21 file ≡ items bodies ++ gate ∷ rest
-  behind_head = ap (λ (l : List ℕ). drop 21 l) split
+-- what a journal has
+module _ (file : List ℕ) (version generation : ℕ) (bodies : List (List ℕ)) (x : IsJournal version generation bodies file) where
+  after_head : drop 21 file ≡ items bodies ++ x.gate ∷ x.rest
+  after_head = ap (λ (l : List ℕ). drop 21 l) x.split
 
   has_magic : take 8 file ≡ magic
-  has_magic = ap (λ (l : List ℕ). take 8 l) split
+  has_magic = ap (λ (l : List ℕ). take 8 l) x.split
 
-  has_version : version_in file ≡ 0
-  has_version = ap version_in split
+  has_version : version < 2 ^ 32 → version_in file ≡ version
+  has_version small = ap version_in x.split ∙ from_le_bytes-to_le_bytes_4 version small
 
   has_gate : slice_index file 20 ≡ 1
-  has_gate = ap (λ (l : List ℕ). slice_index l 20) split
+  has_gate = ap (λ (l : List ℕ). slice_index l 20) x.split
 
-  has_generation : generation < 2 ^ 64 → generation_in file ≡ generation
-  has_generation small = ap generation_in split ∙ from_le_bytes-to_le_bytes_8 generation small
+  has_generation : generation_in file ≡ generation
+  has_generation = ap generation_in x.split ∙ from_le_bytes-to_le_bytes_8 generation x.numbered.1
 
   is_long : 22 ≤ length file
-  is_long = omega (arith, ap length split, length-append (spelled generation bodies) (gate ∷ rest), length-append (header generation) (1 ∷ items bodies))
+  is_long = omega (arith, ap length x.split, length-append (journal_bytes version generation bodies) (x.gate ∷ x.rest), length-append (head_bytes version generation) (1 ∷ items bodies))
+
+  none_more : LacksItem (x.gate ∷ x.rest)
+  none_more = closed_none x.gate x.rest x.closed
+
+  is_made_true : is_made file ≡ true
+  is_made_true = made file has_gate (λ e. absurd (omega (arith, e, has_generation, x.numbered.0)))
+
+-- what a file has in which an item isn't whole
+module _ (file : List ℕ) (at : ℕ) (x : BreaksAt at file) where
+  abbrev inner : List ℕ
+  inner = items x.bodies ++ 1 ∷ x.rest
+
+  front_is : length (take 20 file) ≡ 20
+  front_is = omega (arith, length-take 20 file, ap length x.split, length-append (take 20 file) (1 ∷ inner))
+
+  after_front : drop 21 file ≡ inner
+  after_front =
+      ap (λ (l : List ℕ). drop 21 l) (x.split ∙ sym (append_assoc (take 20 file) (1 ∷ []) inner))
+      ∙ drop_at (take 20 file ++ 1 ∷ []) inner 21 (omega (arith, front_is, length-append (take 20 file) (1 ∷ [])))
+
+  has_more : 22 ≤ length file
+  has_more = omega (arith, front_is, ap length x.split, length-append (take 20 file) (1 ∷ inner), length-append (items x.bodies) (1 ∷ x.rest))
+
+pub one_journal : OneJournal
+one_journal file version other_version generation other bodies others small other_small x y =
+    let same = sym (after_head file version generation bodies x) ∙ after_head file other_version other others y in (
+      sym (has_version file version generation bodies x small) ∙ has_version file other_version other others y other_small,
+      sym (has_generation file version generation bodies x) ∙ has_generation file other_version other others y,
+      (same_items bodies others x.gate y.gate x.rest y.rest x.sized y.sized (none_more file version generation bodies x) (none_more file other_version other others y) same).0,
+    )
 
 pub one_loading : OneLoading
 one_loading file generation other bodies others x y =
-    let gx = has_generation file generation bodies x.gate x.rest x.split x.numbered.1 in
-    let gy = has_generation file other others y.gate y.rest y.split y.numbered.1 in
-    let same = sym (behind_head file generation bodies x.gate x.rest x.split) ∙ behind_head file other others y.gate y.rest y.split in
-    (sym gx ∙ gy, (same_items bodies others x.gate y.gate x.rest y.rest x.sized y.sized (closed_none x.gate x.rest x.closed) (closed_none y.gate y.rest y.closed) same).0)
+    let one = one_journal file single_version single_version generation other bodies others (omega arith) (omega arith) x y in
+    (one.1, one.2)
 
 never : true ≡ false → ⊥
 never e = cc e
 
-made_loads : (file : List ℕ) (generation : ℕ) (bodies : List (List ℕ)) → Loads generation bodies file → is_made file ≡ true
-made_loads file generation bodies x =
-    made file (has_gate file generation bodies x.gate x.rest x.split) (λ e. absurd (omega (arith, e, has_generation file generation bodies x.gate x.rest x.split x.numbered.1, x.numbered.0)))
-
-not_corrupt : (file : List ℕ) (generation : ℕ) (bodies : List (List ℕ)) (at : ℕ) → Loads generation bodies file → IsCorrupt at file → ⊥
-not_corrupt file generation bodies at x (inl other) = other.1 (has_magic file generation bodies x.gate x.rest x.split)
-not_corrupt file generation bodies at x (inr (inl ends)) = absurd (omega (arith, ends.2, is_long file generation bodies x.gate x.rest x.split))
-not_corrupt file generation bodies at x (inr (inr b)) =
-    let same = sym (behind_head file generation bodies x.gate x.rest x.split) ∙ behind_head file b.generation b.bodies 1 b.rest b.split in
-    let tails = same_items bodies b.bodies x.gate 1 x.rest b.rest x.sized b.sized (closed_none x.gate x.rest x.closed) b.broken same in
+not_corrupt : (kind : FileKind) (file : List ℕ) (version generation : ℕ) (bodies : List (List ℕ)) (at : ℕ) → IsJournal version generation bodies file → IsCorrupt kind at file → ⊥
+not_corrupt kind file version generation bodies at x (inl other) = other.1 (has_magic file version generation bodies x)
+not_corrupt kind file version generation bodies at x (inr (inl ends)) = absurd (omega (arith, ends.2, is_long file version generation bodies x))
+not_corrupt kind file version generation bodies at x (inr (inr (head, b))) =
+    let same = sym (after_head file version generation bodies x) ∙ after_front file at b in
+    let tails = same_items bodies b.bodies x.gate 1 x.rest b.rest x.sized b.sized (none_more file version generation bodies x) b.broken same in
     x.closed (first_byte x.gate 1 x.rest b.rest tails.1)
 
+pub journal_or_fault : JournalOrFault
+journal_or_fault kind file version generation bodies NotMade known small x content fault = never (sym (is_made_true file version generation bodies x) ∙ fault)
+journal_or_fault kind file version generation bodies (Corrupt which at) known small x content fault = not_corrupt kind file version generation bodies at x fault.2
+journal_or_fault kind file version generation bodies (BadVersion found) known small x content fault =
+    fault.3 (subst (IsKnown kind) (sym (fault.2 ∙ has_version file version generation bodies x small)) known)
+journal_or_fault kind file version generation bodies DiskFailed known small x content fault = fault
+journal_or_fault kind file version generation bodies NoMemory known small x content fault = content refl
+
 pub loads_or_fails : LoadsOrFails
-loads_or_fails file generation bodies NotMade x content fault = never (sym (made_loads file generation bodies x) ∙ fault)
-loads_or_fails file generation bodies (Corrupt which at) x content fault = not_corrupt file generation bodies at x fault.2
-loads_or_fails file generation bodies (BadVersion found) x content fault = fault.3 (fault.2 ∙ has_version file generation bodies x.gate x.rest x.split)
-loads_or_fails file generation bodies DiskFailed x content fault = fault
-loads_or_fails file generation bodies NoMemory x content fault = content refl
+loads_or_fails file generation bodies fault x content is = journal_or_fault single_kind file single_version generation bodies fault (omega arith, omega arith) (omega arith) x content is
 
 -- two faults of one file
-one_place : (file : List ℕ) (a b : ℕ) → IsCorrupt a file → IsCorrupt b file → a ≡ b
-one_place file a b (inl x) (inl y) = x.0 ∙ sym y.0
-one_place file a b (inl x) (inr (inl y)) = absurd (x.1 y.1.0)
-one_place file a b (inl x) (inr (inr y)) = absurd (x.1 (has_magic file y.generation y.bodies 1 y.rest y.split))
-one_place file a b (inr (inl x)) (inl y) = absurd (y.1 x.1.0)
-one_place file a b (inr (inl x)) (inr (inl y)) = x.0 ∙ sym y.0
-one_place file a b (inr (inl x)) (inr (inr y)) = absurd (omega (arith, x.2, is_long file y.generation y.bodies 1 y.rest y.split))
-one_place file a b (inr (inr x)) (inl y) = absurd (y.1 (has_magic file x.generation x.bodies 1 x.rest x.split))
-one_place file a b (inr (inr x)) (inr (inl y)) = absurd (omega (arith, y.2, is_long file x.generation x.bodies 1 x.rest x.split))
-one_place file a b (inr (inr x)) (inr (inr y)) =
-    let same = sym (behind_head file x.generation x.bodies 1 x.rest x.split) ∙ behind_head file y.generation y.bodies 1 y.rest y.split in
+one_place : (kind : FileKind) (file : List ℕ) (a b : ℕ) → IsCorrupt kind a file → IsCorrupt kind b file → a ≡ b
+one_place kind file a b (inl x) (inl y) = x.0 ∙ sym y.0
+one_place kind file a b (inl x) (inr (inl y)) = absurd (x.1 y.1.0)
+one_place kind file a b (inl x) (inr (inr y)) = absurd (x.1 y.0.0)
+one_place kind file a b (inr (inl x)) (inl y) = absurd (y.1 x.1.0)
+one_place kind file a b (inr (inl x)) (inr (inl y)) = x.0 ∙ sym y.0
+one_place kind file a b (inr (inl x)) (inr (inr y)) = absurd (omega (arith, x.2, has_more file b y.1))
+one_place kind file a b (inr (inr x)) (inl y) = absurd (y.1 x.0.0)
+one_place kind file a b (inr (inr x)) (inr (inl y)) = absurd (omega (arith, y.2, has_more file a x.1))
+one_place kind file a b (inr (inr (x_head, x))) (inr (inr (y_head, y))) =
+    let same = sym (after_front file a x) ∙ after_front file b y in
     let bodies = (same_items x.bodies y.bodies 1 1 x.rest y.rest x.sized y.sized x.broken y.broken same).0 in
-    omega (arith, x.place, y.place, length-append (header x.generation) (1 ∷ items x.bodies), length-append (header y.generation) (1 ∷ items y.bodies), ap (λ (l : List (List ℕ)). length (items l)) bodies)
+    omega (arith, x.place, y.place, ap (λ (l : List (List ℕ)). length (items l)) bodies)
 
--- a corrupt file has the known version, or other bytes at its front
-known_version : (file : List ℕ) (at : ℕ) → IsCorrupt at file → take 8 file ≡ magic → version_in file ≡ 0
-known_version file at (inl x) known = absurd (x.1 known)
-known_version file at (inr (inl x)) known = x.1.1
-known_version file at (inr (inr x)) known = has_version file x.generation x.bodies 1 x.rest x.split
+-- a corrupt file has a known version, or other bytes at its front
+known_version : (kind : FileKind) (file : List ℕ) (at : ℕ) → IsCorrupt kind at file → take 8 file ≡ magic → IsKnown kind (version_in file)
+known_version kind file at (inl x) known = absurd (x.1 known)
+known_version kind file at (inr (inl x)) known = x.1.1
+known_version kind file at (inr (inr x)) known = x.0.1
 
-pub one_fault : OneFileFault
-one_fault file NotMade NotMade cx cy x y = refl
-one_fault file NotMade (Corrupt which at) cx cy x y = absurd (never (sym y.0 ∙ x))
-one_fault file NotMade (BadVersion found) cx cy x y = absurd (never (sym y.0 ∙ x))
-one_fault file (Corrupt which at) NotMade cx cy x y = absurd (never (sym x.0 ∙ y))
-one_fault file (Corrupt which at) (Corrupt other place) cx cy x y = let number : which ≡ other = x.1 ∙ sym y.1 in let same = one_place file at place x.2 y.2 in λ i. Corrupt (number i) (same i)
-one_fault file (Corrupt which at) (BadVersion found) cx cy x y = absurd (y.3 (y.2 ∙ known_version file at x.2 y.1))
-one_fault file (BadVersion found) NotMade cx cy x y = absurd (never (sym x.0 ∙ y))
-one_fault file (BadVersion found) (Corrupt which at) cx cy x y = absurd (x.3 (x.2 ∙ known_version file at y.2 x.1))
-one_fault file (BadVersion found) (BadVersion other) cx cy x y = let same : found ≡ other = x.2 ∙ sym y.2 in λ i. BadVersion (same i)
-one_fault file DiskFailed other cx cy x y = absurd x
-one_fault file NoMemory other cx cy x y = absurd (cx refl)
-one_fault file NotMade DiskFailed cx cy x y = absurd y
-one_fault file (Corrupt which at) DiskFailed cx cy x y = absurd y
-one_fault file (BadVersion found) DiskFailed cx cy x y = absurd y
-one_fault file NotMade NoMemory cx cy x y = absurd (cy refl)
-one_fault file (Corrupt which at) NoMemory cx cy x y = absurd (cy refl)
-one_fault file (BadVersion found) NoMemory cx cy x y = absurd (cy refl)
+pub one_fault : OneFaultOfKind
+one_fault kind file NotMade NotMade cx cy x y = refl
+one_fault kind file NotMade (Corrupt which at) cx cy x y = absurd (never (sym y.0 ∙ x))
+one_fault kind file NotMade (BadVersion found) cx cy x y = absurd (never (sym y.0 ∙ x))
+one_fault kind file (Corrupt which at) NotMade cx cy x y = absurd (never (sym x.0 ∙ y))
+one_fault kind file (Corrupt which at) (Corrupt other place) cx cy x y = let number : which ≡ other = x.1 ∙ sym y.1 in let same = one_place kind file at place x.2 y.2 in λ i. Corrupt (number i) (same i)
+one_fault kind file (Corrupt which at) (BadVersion found) cx cy x y = absurd (y.3 (subst (IsKnown kind) (sym y.2) (known_version kind file at x.2 y.1)))
+one_fault kind file (BadVersion found) NotMade cx cy x y = absurd (never (sym x.0 ∙ y))
+one_fault kind file (BadVersion found) (Corrupt which at) cx cy x y = absurd (x.3 (subst (IsKnown kind) (sym x.2) (known_version kind file at y.2 x.1)))
+one_fault kind file (BadVersion found) (BadVersion other) cx cy x y = let same : found ≡ other = x.2 ∙ sym y.2 in λ i. BadVersion (same i)
+one_fault kind file DiskFailed other cx cy x y = absurd x
+one_fault kind file NoMemory other cx cy x y = absurd (cx refl)
+one_fault kind file NotMade DiskFailed cx cy x y = absurd y
+one_fault kind file (Corrupt which at) DiskFailed cx cy x y = absurd y
+one_fault kind file (BadVersion found) DiskFailed cx cy x y = absurd y
+one_fault kind file NotMade NoMemory cx cy x y = absurd (cy refl)
+one_fault kind file (Corrupt which at) NoMemory cx cy x y = absurd (cy refl)
+one_fault kind file (BadVersion found) NoMemory cx cy x y = absurd (cy refl)
+
+pub one_single_fault : OneFileFault
+one_single_fault file fault other cx cy x y = one_fault single_kind file fault other cx cy x y

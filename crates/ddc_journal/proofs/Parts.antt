@@ -1,4 +1,4 @@
--- A file that is cut at a gate, and what a write before, at or behind the gate leaves.
+-- A file that is cut at a gate, and what a write before, at or after the gate leaves.
 use Rattle.std.proofs.Common.{◌≡◌, ℕ, ◌+◌, ◌-◌, ◌≤◌, List, [], ◌∷◌, ◌++◌, length, take, drop, refl, sym, ◌∙◌, ap, arith, append_assoc, length-append}
 use Rattle.std.proofs.lemmas.List.{take_at, drop_at, append-nil}
 use Rattle.std.specs.Prelude.{replicate}
@@ -33,7 +33,7 @@ module _ (front inner : List ℕ) (gate end : ℕ) (place : end ≡ length front
   from_gate : drop end file ≡ gate ∷ inner
   from_gate = ap (λ (l : List ℕ). drop end l) split ∙ drop_at front (gate ∷ inner) end (sym place)
 
-  -- a write behind the gate
+  -- a write after the gate
   pub torn_behind : (n : ℕ) (new : List ℕ) → Torn (end + 1) n file new → (other : List ℕ) × (new ≡ front ++ gate ∷ other)
   torn_behind n new torn =
       let tail = drop (end + 1 + n) file in (

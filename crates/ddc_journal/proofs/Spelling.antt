@@ -1,15 +1,15 @@
 -- The spelling of a journal with one body more.
 use Rattle.std.proofs.Common.{◌≡◌, ◌≢◌, ℕ, ◌<◌, ◌^◌, List, [], ◌∷◌, ◌++◌, length, sym, ◌∙◌, ap, arith, append_assoc}
 use Rattle.std.proofs.lemmas.List.{append-nil}
-use Rattle.ddc_journal.specs.Journal.{framed, items, header, spelled, AreSized}
+use Rattle.ddc_journal.specs.Journal.{framed, items, head_bytes, journal_bytes, AreSized}
 
 pub items-push : (bodies : List (List ℕ)) (body : List ℕ) → items (bodies ++ body ∷ []) ≡ items bodies ++ 1 ∷ framed body
 items-push [] body = ap (λ (l : List ℕ). 1 ∷ l) (append-nil (framed body))
 items-push (b ∷ bodies) body = ap (λ (l : List ℕ). 1 ∷ l) (ap (λ (l : List ℕ). framed b ++ l) (items-push bodies body) ∙ sym (append_assoc (framed b) (items bodies) (1 ∷ framed body)))
 
-pub spelled-push : (generation : ℕ) (bodies : List (List ℕ)) (body : List ℕ) → spelled generation (bodies ++ body ∷ []) ≡ spelled generation bodies ++ 1 ∷ framed body
-spelled-push generation bodies body =
-    ap (λ (l : List ℕ). header generation ++ 1 ∷ l) (items-push bodies body) ∙ sym (append_assoc (header generation) (1 ∷ items bodies) (1 ∷ framed body))
+pub journal-push : (version generation : ℕ) (bodies : List (List ℕ)) (body : List ℕ) → journal_bytes version generation (bodies ++ body ∷ []) ≡ journal_bytes version generation bodies ++ 1 ∷ framed body
+journal-push version generation bodies body =
+    ap (λ (l : List ℕ). head_bytes version generation ++ 1 ∷ l) (items-push bodies body) ∙ sym (append_assoc (head_bytes version generation) (1 ∷ items bodies) (1 ∷ framed body))
 
 pub sized-push : (bodies : List (List ℕ)) (body : List ℕ) → AreSized bodies → length body < 2 ^ 32 → AreSized (bodies ++ body ∷ [])
 sized-push [] body sized small = (small, tt)

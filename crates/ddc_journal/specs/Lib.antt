@@ -1,4 +1,5 @@
 pub mod Journal
 pub mod Faults
+pub mod Pairs
 pub mod Laws
 pub mod inside

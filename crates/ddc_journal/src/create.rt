@@ -1,26 +1,25 @@
-//! How an empty journal is made.
+//! How a journal is made anew, over whatever its file held.
 
 ghost use Rattle.std.specs.Prelude.{◌≡◌, ◌⊎◌, ◌<◌, ◌^◌, [], ℕ, List, false, length, IfErr, IfOk, IfSome, OnOk, ◌≤◌};
 ghost use Rattle.ddc_names.specs.Causes.{HasCause};
 ghost use Rattle.ddc_disk.specs.Disk.{EachSince, IsImage, IsSure};
-ghost use Rattle.ddc_journal.specs.Journal.{header, is_made, IsReady, NotMadeOrEmpty};
-ghost use Rattle.ddc_journal.specs.inside.Closing.{IsUnmade, IsClosed, IsBlank};
+ghost use Rattle.ddc_journal.specs.Journal.{front_size, head_bytes, is_made, rank, IsReady, NotMadeOrEmpty};
+ghost use Rattle.ddc_journal.specs.inside.Closing.{AreItems, IsClosed, IsFilled, IsRemade, IsSureOf, IsUnmade};
 ghost use Rattle.ddc_journal.specs.declared.fault.JournalFault.TheVariants.{DiskFailed};
 
+use crate::kind::{FRONT, GATE, SINGLE_VERSION};
 use crate::{Journal, JournalFault};
 use ddc_disk::{Disk, write_sure};
 use ddc_names::Failed;
 
-// The place of the file's own gate.
-const GATE: u64 = 20;
-
 // The first 20 bytes of a journal.
-fn head(generation: u64) -> [u8; 20]
-    ensures { result ≡ header generation }
+fn head(version: u32, generation: u64) -> [u8; 20]
+    ensures { result ≡ head_bytes version generation }
 {
+    let [p, q, r, s] = version.to_le_bytes();
     let [a, b, c, d, e, f, g, h] = generation.to_le_bytes();
     [
-        68, 68, 67, 74, 76, 79, 71, 10, 0, 0, 0, 0, a, b, c, d, e, f, g, h,
+        68, 68, 67, 74, 76, 79, 71, 10, p, q, r, s, a, b, c, d, e, f, g, h,
     ]
 }
 
@@ -39,7 +38,7 @@ fn close_short<D: Disk>(disk: &mut D) -> Result<(), Failed>
 
 // Closes a file that has a gate, where the gate is open.
 fn close_long<D: Disk>(disk: &mut D) -> Result<(), Failed>
-    ensures any_moment { (file : List ℕ) → IsSure (D.meaning disk.old) file → 21 ≤ length file → is_made file ≡ false → EachSince (D.meaning disk.old).line (D.meaning disk.new).line IsUnmade }
+    ensures any_moment { (file : List ℕ) → IsSure (D.meaning disk.old) file → 21 ≤ length file → EachSince (D.meaning disk.old).line (D.meaning disk.new).line (λ image. rank image ≤ rank file) }
     ensures closed { OnOk result ((file : List ℕ) → IsSure (D.meaning disk.old) file → 21 ≤ length file → IsClosed (D.meaning disk.new)) }
     ensures past { EachSince (D.meaning disk.old).line (D.meaning disk.new).line (λ _. Unit {0}) }
     ensures cause { HasCause (D.meaning disk.old).faults (D.meaning disk.new).faults result }
@@ -53,13 +52,13 @@ fn close_long<D: Disk>(disk: &mut D) -> Result<(), Failed>
 }
 
 // Closes a file, so that it isn't made.
-fn close<D: Disk>(disk: &mut D) -> Result<(), Failed>
-    ensures any_moment { (file : List ℕ) → IsSure (D.meaning disk.old) file → is_made file ≡ false → EachSince (D.meaning disk.old).line (D.meaning disk.new).line IsUnmade }
+pub(crate) fn close<D: Disk>(disk: &mut D) -> Result<(), Failed>
+    ensures any_moment { (file : List ℕ) → IsSure (D.meaning disk.old) file → EachSince (D.meaning disk.old).line (D.meaning disk.new).line (λ image. rank image ≤ rank file) }
     ensures closed { OnOk result ((file : List ℕ) → IsSure (D.meaning disk.old) file → IsClosed (D.meaning disk.new)) }
     ensures past { EachSince (D.meaning disk.old).line (D.meaning disk.new).line (λ _. Unit {0}) }
     ensures cause { HasCause (D.meaning disk.old).faults (D.meaning disk.new).faults result }
 {
-    if disk.len()? < GATE + 1 {
+    if disk.len()? < FRONT {
         close_short(disk)?;
     } else {
         close_long(disk)?;
@@ -67,29 +66,45 @@ fn close<D: Disk>(disk: &mut D) -> Result<(), Failed>
     Ok(())
 }
 
-// Writes all of an empty journal but its gate.
-fn write_blank<D: Disk>(disk: &mut D, generation: u64) -> Result<(), Failed>
+// Writes all of a journal but its gate.
+fn fill<D: Disk>(disk: &mut D, version: u32, generation: u64, items: &[u8]) -> Result<(), Failed>
     ensures any_moment { IsClosed (D.meaning disk.old) → EachSince (D.meaning disk.old).line (D.meaning disk.new).line IsUnmade }
-    ensures blank { OnOk result (IsClosed (D.meaning disk.old) → IsBlank (D.meaning disk.new) generation) }
+    ensures filled { OnOk result (IsClosed (D.meaning disk.old) → IsFilled (D.meaning disk.new) version generation items.now) }
     ensures past { EachSince (D.meaning disk.old).line (D.meaning disk.new).line (λ _. Unit {0}) }
     ensures cause { HasCause (D.meaning disk.old).faults (D.meaning disk.new).faults result }
 {
-    disk.write_at(0, &head(generation))?;
-    write_sure(disk, GATE + 1, &[0])?;
+    disk.write_at(0, &head(version, generation))?;
+    write_sure(disk, FRONT, items)?;
     Ok(())
 }
 
-// Makes an empty journal.
+// Makes a journal of these items over the old file, of which the disk is sure.
+pub(crate) fn remake<D: Disk>(
+    disk: &mut D,
+    version: u32,
+    generation: u64,
+    items: &[u8],
+) -> Result<(), Failed>
+    ensures any_moment { (file : List ℕ) (bodies : List (List ℕ)) → IsSure (D.meaning disk.old) file → AreItems generation bodies items.now → EachSince (D.meaning disk.old).line (D.meaning disk.new).line (IsRemade version generation bodies file) }
+    ensures made { OnOk result ((file : List ℕ) (bodies : List (List ℕ)) → IsSure (D.meaning disk.old) file → AreItems generation bodies items.now → IsSureOf (D.meaning disk.new) version generation bodies) }
+    ensures past { EachSince (D.meaning disk.old).line (D.meaning disk.new).line (λ _. Unit {0}) }
+    ensures cause { HasCause (D.meaning disk.old).faults (D.meaning disk.new).faults result }
+{
+    close(disk)?;
+    fill(disk, version, generation, items)?;
+    write_sure(disk, GATE, &[1])?;
+    Ok(())
+}
+
+// Makes an empty journal that stands alone.
 fn make<D: Disk>(disk: &mut D, generation: u64) -> Result<(), Failed>
     ensures any_moment { 0 < generation → generation < 2 ^ 64 → IfSome (D.meaning disk.old).held (λ file. is_made file ≡ false → EachSince (D.meaning disk.old).line (D.meaning disk.new).line (λ image. IsImage (D.meaning disk.old).line image ⊎ NotMadeOrEmpty generation image)) }
-    ensures ready { OnOk result (0 < generation → generation < 2 ^ 64 → IfSome (D.meaning disk.old).held (λ _. IsReady (D.meaning disk.new) generation [] 21)) }
+    ensures ready { OnOk result (0 < generation → generation < 2 ^ 64 → IfSome (D.meaning disk.old).held (λ _. IsReady (D.meaning disk.new) generation [] front_size)) }
     ensures past { EachSince (D.meaning disk.old).line (D.meaning disk.new).line (λ _. Unit {0}) }
     ensures cause { HasCause (D.meaning disk.old).faults (D.meaning disk.new).faults result }
 {
     disk.sync()?;
-    close(disk)?;
-    write_blank(disk, generation)?;
-    write_sure(disk, GATE, &[1])?;
+    remake(disk, SINGLE_VERSION, generation, &[0])?;
     Ok(())
 }
 
@@ -102,8 +117,8 @@ impl Journal {
     pub fn create<D: Disk>(disk: &mut D, generation: u64) -> Result<Journal, JournalFault>
         requires { 0 < generation }
         ensures any_moment { IfSome (D.meaning disk.old).held (λ file. is_made file ≡ false → EachSince (D.meaning disk.old).line (D.meaning disk.new).line (λ image. IsImage (D.meaning disk.old).line image ⊎ NotMadeOrEmpty generation image)) }
-        ensures ready { OnOk result (IfSome (D.meaning disk.old).held (λ _. IsReady (D.meaning disk.new) generation [] 21)) }
-        ensures place { IfOk result (λ journal. journal ≡ 21) }
+        ensures ready { OnOk result (IfSome (D.meaning disk.old).held (λ _. IsReady (D.meaning disk.new) generation [] front_size)) }
+        ensures place { IfOk result (λ journal. journal ≡ front_size) }
         ensures past { EachSince (D.meaning disk.old).line (D.meaning disk.new).line (λ _. Unit {0}) }
         ensures failed { IfErr result (λ fault. fault ≡ DiskFailed) }
         ensures cause { HasCause (D.meaning disk.old).faults (D.meaning disk.new).faults result }
@@ -111,6 +126,6 @@ impl Journal {
         if make(disk, generation).is_err() {
             return Err(JournalFault::DiskFailed);
         }
-        Ok(Journal::at(GATE + 1))
+        Ok(Journal::at(FRONT))
     }
 }

@@ -16,7 +16,7 @@ pub enum JournalFault {
     Corrupt {
         /// The file's number: 0, or 1 for the second of two.
         file: u8,
-        /// The place in bytes: 0 where the first bytes are others, 20 where the file ends behind its
+        /// The place in bytes: 0 where the first bytes are others, 20 where the file ends with its
         /// gate, and else that of the gate whose item isn't whole.
         at: u64,
     },

@@ -7,7 +7,7 @@ use ddc_names::NoMemory;
 use std::alloc::Global;
 use std::marker::Model;
 
-/// A body with its length in front and a closing gate behind, as `Journal::append` writes it.
+/// A body with its length in front and a closing gate after it, as `Journal::append` writes it.
 /// Contracts see the body.
 #[derive(Debug, Drop)]
 pub struct Framed {

@@ -3,7 +3,8 @@
 ghost use Rattle.std.specs.Prelude.{◌≡◌, ◌++◌, ◌∷◌, ◌+◌, ◌<◌, ◌^◌, [], List, ℕ, length, OnOk, OnErr, IfErr};
 ghost use Rattle.ddc_names.specs.Causes.{HasCause};
 ghost use Rattle.ddc_disk.specs.Disk.{EachSince};
-ghost use Rattle.ddc_journal.specs.Journal.{framed, LoadsEither, IsReady};
+ghost use Rattle.ddc_journal.specs.Journal.{framed, item_head, journal_bytes, IsEither, IsReady, LoadsEither, StandsAs};
+ghost use Rattle.ddc_journal.specs.inside.Closing.{IsSureOf};
 ghost use Rattle.ddc_journal.specs.declared.fault.JournalFault.TheVariants.{DiskFailed};
 
 use crate::{Framed, JournalFault};
@@ -25,12 +26,12 @@ impl Model for Journal {
     ghost view = { λ journal. journal.end };
 }
 
-// Writes an item behind the closing gate, and then opens the gate.
-fn append_at<D: Disk>(disk: &mut D, gate: u64, bytes: &[u8]) -> Result<(), Failed>
-    ensures any_moment { (generation : ℕ) (bodies : List (List ℕ)) (body : List ℕ) → bytes.now ≡ framed body ++ 0 ∷ [] → length body < 2 ^ 32 → IsReady (D.meaning disk.old) generation bodies gate
-        → EachSince (D.meaning disk.old).line (D.meaning disk.new).line (LoadsEither generation bodies body) }
-    ensures ready { OnOk result ((generation : ℕ) (bodies : List (List ℕ)) (body : List ℕ) → bytes.now ≡ framed body ++ 0 ∷ [] → length body < 2 ^ 32 → IsReady (D.meaning disk.old) generation bodies gate
-        → IsReady (D.meaning disk.new) generation (bodies ++ body ∷ []) (gate + length bytes.now)) }
+// Writes an item after the closing gate, and then opens the gate.
+pub(crate) fn append_at<D: Disk>(disk: &mut D, gate: u64, bytes: &[u8]) -> Result<(), Failed>
+    ensures any_moment { (version generation : ℕ) (bodies : List (List ℕ)) (body : List ℕ) → bytes.now ≡ framed body ++ 0 ∷ [] → length body < 2 ^ 32 → StandsAs (D.meaning disk.old) version generation bodies gate
+        → EachSince (D.meaning disk.old).line (D.meaning disk.new).line (IsEither version generation bodies body) }
+    ensures ready { OnOk result ((version generation : ℕ) (bodies : List (List ℕ)) (body : List ℕ) → bytes.now ≡ framed body ++ 0 ∷ [] → length body < 2 ^ 32 → StandsAs (D.meaning disk.old) version generation bodies gate
+        → IsSureOf (D.meaning disk.new) version generation (bodies ++ body ∷ []) × (gate + length bytes.now ≡ length (journal_bytes version generation (bodies ++ body ∷ [])))) }
     ensures past { EachSince (D.meaning disk.old).line (D.meaning disk.new).line (λ _. Unit {0}) }
     ensures fits { OnOk result (gate + length bytes.now < 2 ^ 64) }
     ensures cause { HasCause (D.meaning disk.old).faults (D.meaning disk.new).faults result }
@@ -47,7 +48,7 @@ impl Journal {
         Journal { end }
     }
 
-    /// Adds a body behind the others, by four device calls, and takes no memory.
+    /// Adds a body after the others, by four device calls, and takes no memory.
     ///
     /// # Errors
     ///
@@ -59,6 +60,7 @@ impl Journal {
         ensures ready { OnOk result ((generation : ℕ) (bodies : List (List ℕ)) → IsReady (D.meaning disk.old) generation bodies self.old
             → IsReady (D.meaning disk.new) generation (bodies ++ item.now ∷ []) self.new) }
         ensures past { EachSince (D.meaning disk.old).line (D.meaning disk.new).line (λ _. Unit {0}) }
+        ensures moved { OnOk result (self.new ≡ self.old + item_head + length item.now) }
         ensures kept { OnErr result (self.new ≡ self.old) }
         ensures failed { IfErr result (λ fault. fault ≡ DiskFailed) }
         ensures cause { HasCause (D.meaning disk.old).faults (D.meaning disk.new).faults result }

@@ -4,10 +4,12 @@ ghost use Rattle.std.specs.Prelude.{◌≡◌, ◌⊎◌, ◌≤◌, IfErr, IfOk
 ghost use Rattle.ddc_names.specs.Causes.{Rose};
 ghost use Rattle.ddc_disk.specs.Disk.{EachSince, IsCalm, IsImage};
 ghost use Rattle.ddc_journal.specs.Journal.{generation_in, IsReady};
-ghost use Rattle.ddc_journal.specs.Faults.{FaultOf, LoadsAs};
+ghost use Rattle.ddc_journal.specs.Faults.{FaultOf, FileFault, LoadsAs};
+ghost use Rattle.ddc_journal.specs.inside.Scanning.{IsScan};
 ghost use Rattle.ddc_journal.specs.declared.fault.JournalFault.TheVariants.{DiskFailed, NoMemory};
 
-use crate::parse::parse;
+use crate::kind::{FileKind, single};
+use crate::parse::{Scan, scan_bytes};
 use crate::{Journal, JournalFault};
 use ddc_disk::Disk;
 use ddc_names::{ByteList, Rows};
@@ -36,8 +38,33 @@ fn read_all<D: Disk>(alloc: Global, disk: &mut D) -> Result<Vec<u8>, JournalFaul
     Ok(bytes)
 }
 
+// The journal that a disk holds.
+pub(crate) fn scan_disk<D: Disk>(
+    alloc: Global,
+    disk: &mut D,
+    kind: FileKind,
+) -> Result<Scan, JournalFault>
+    ensures loads { IfOk result (λ scan. IfSome (D.meaning disk.old).held (λ file. IsScan kind file scan.version scan.generation scan.bodies scan.end)) }
+    ensures fault { IfErr result (λ fault. ((fault ≡ DiskFailed) × Rose (D.meaning disk.old).faults (D.meaning disk.new).faults) ⊎ IfSome (D.meaning disk.old).held (λ file. FileFault kind file fault)) }
+    ensures cause { IfErr result (λ fault. fault ≡ DiskFailed → Rose (D.meaning disk.old).faults (D.meaning disk.new).faults) }
+    ensures same { OnOk result ((D.meaning disk.old).faults ≡ (D.meaning disk.new).faults) }
+    ensures later { (D.meaning disk.old).faults ≤ (D.meaning disk.new).faults }
+    ensures held { (D.meaning disk.new).held ≡ (D.meaning disk.old).held }
+    ensures calm { IsCalm (D.meaning disk.old).line (D.meaning disk.new).line }
+    ensures past { EachSince (D.meaning disk.old).line (D.meaning disk.new).line (IsImage (D.meaning disk.old).line) }
+{
+    let bytes = match read_all(alloc, disk) {
+        Ok(bytes) => bytes,
+        Err(fault) => return Err(fault),
+    };
+    match scan_bytes(alloc, &bytes, kind) {
+        Ok(scan) => Ok(scan),
+        Err(fault) => Err(fault),
+    }
+}
+
 impl Journal {
-    /// Opens the journal of a disk and gives the bodies behind open gates, in order. It begins with a
+    /// Opens the journal of a disk and gives the bodies after open gates, in order. It begins with a
     /// sync, and changes nothing.
     ///
     /// # Errors
@@ -60,12 +87,8 @@ impl Journal {
         if disk.sync().is_err() {
             return Err(JournalFault::DiskFailed);
         }
-        let bytes = match read_all(alloc, disk) {
-            Ok(bytes) => bytes,
-            Err(fault) => return Err(fault),
-        };
-        match parse(alloc, &bytes) {
-            Ok((bodies, end)) => Ok((Journal::at(end), bodies)),
+        match scan_disk(alloc, disk, single()) {
+            Ok(scan) => Ok((Journal::at(scan.end), scan.bodies)),
             Err(fault) => Err(fault),
         }
     }

@@ -2,11 +2,12 @@
 
 ghost use Rattle.std.specs.Prelude.{◌≡◌, ◌<◌, ◌≤◌, ◌^◌, ◌++◌, ◌∷◌, [], length, take, drop, slice_index, IfErr, IfNone, IfOk, IfSome, OnErr, OnOk};
 ghost use Rattle.std.specs.Int.{from_le_bytes, to_le_bytes, w32, w64};
-ghost use Rattle.ddc_journal.specs.Journal.{magic, framed, header, version_in, generation_in};
-ghost use Rattle.ddc_journal.specs.Faults.{FaultOf, LacksItem, LoadsAs};
-ghost use Rattle.ddc_journal.specs.inside.Scanning.{EndsAt, ItemFault, IsOpen};
+ghost use Rattle.ddc_journal.specs.Journal.{magic, framed, head_bytes, version_in, generation_in, rank};
+ghost use Rattle.ddc_journal.specs.Faults.{FileFault, LacksItem};
+ghost use Rattle.ddc_journal.specs.inside.Scanning.{EndsAt, IsOpen, IsScan, ItemFault};
 
 use crate::JournalFault;
+use crate::kind::{FRONT, FileKind, GATE, MAGIC};
 use ddc_names::{ByteList, NoMemory, Rows};
 use std::alloc::Global;
 
@@ -43,7 +44,7 @@ fn split_head(bytes: &[u8]) -> Option<Head<'_>>
     ensures fits { IfSome result (λ head. head.generation < 2 ^ 64) }
     ensures gate { IfSome result (λ head. head.gate ≡ slice_index bytes.now 20) }
     ensures items { IfSome result (λ head. head.items.now ≡ drop 21 bytes.now) }
-    ensures known { IfSome result (λ head. head.magic.now ≡ magic → head.version ≡ 0 → take 20 bytes.now ≡ header head.generation) }
+    ensures known { IfSome result (λ head. head.magic.now ≡ magic → take 20 bytes.now ≡ head_bytes head.version head.generation) }
     ensures long { IfSome result (λ _. 21 ≤ length bytes.now) }
     ensures short { IfNone result (length bytes.now < 21) }
 {
@@ -68,10 +69,22 @@ fn split_head(bytes: &[u8]) -> Option<Head<'_>>
     })
 }
 
-// The items of a journal whose head is as it should be.
-fn open_items(bytes: &[u8]) -> Result<&[u8], JournalFault>
-    ensures items { IfOk result (λ items. IsOpen bytes.now items.now) }
-    ensures fault { IfErr result (λ fault. FaultOf bytes.now fault) }
+// The generation that the front of a file names, where its gate is open, and else 0.
+pub(crate) fn rank_in(front: &[u8]) -> u64
+    ensures { result ≡ rank front.now }
+{
+    match split_head(front) {
+        Some(head) => { if head.gate == 1 { head.generation } else { 0 } }
+        None => 0,
+    }
+}
+
+// The head of a journal, where it is as it should be.
+fn open_items(bytes: &[u8], kind: FileKind) -> Result<Head<'_>, JournalFault>
+    ensures items { IfOk result (λ head. IsOpen kind bytes.now head.items.now) }
+    ensures version { IfOk result (λ head. head.version ≡ version_in bytes.now) }
+    ensures generation { IfOk result (λ head. head.generation ≡ generation_in bytes.now) }
+    ensures fault { IfErr result (λ fault. FileFault kind bytes.now fault) }
 {
     let Some(head) = split_head(bytes) else {
         return Err(JournalFault::NotMade);
@@ -79,18 +92,18 @@ fn open_items(bytes: &[u8]) -> Result<&[u8], JournalFault>
     if head.gate != 1 || head.generation == 0 {
         return Err(JournalFault::NotMade);
     }
-    if *head.magic != [68, 68, 67, 74, 76, 79, 71, 10] {
-        return Err(JournalFault::Corrupt { file: 0, at: 0 });
+    let file = kind.number;
+    if *head.magic != MAGIC {
+        return Err(JournalFault::Corrupt { file, at: 0 });
     }
-    if head.version != 0 {
-        return Err(JournalFault::BadVersion {
-            found: head.version,
-        });
+    let found = head.version;
+    if found < kind.least || found > kind.most {
+        return Err(JournalFault::BadVersion { found });
     }
     if head.items.is_empty() {
-        return Err(JournalFault::Corrupt { file: 0, at: 20 });
+        return Err(JournalFault::Corrupt { file, at: GATE });
     }
-    Ok(head.items)
+    Ok(head)
 }
 
 // A length, a body of that length, and at least one byte more.
@@ -117,38 +130,57 @@ fn add_body(alloc: Global, bodies: &mut Rows<ByteList>, body: &[u8]) -> Result<(
     bodies.push(Rows::of_vec(copy))
 }
 
-// The bodies behind open gates, and the place of the closing gate.
-fn read_items(alloc: Global, items: &[u8]) -> Result<(Rows<ByteList>, u64), JournalFault>
+// The bodies after open gates, and the place of the closing gate.
+fn read_items(
+    alloc: Global,
+    items: &[u8],
+    number: u8,
+) -> Result<(Rows<ByteList>, u64), JournalFault>
     requires { 0 < length items.now }
     ensures ends { IfOk result (λ r. EndsAt r.0 r.1 items.now) }
-    ensures fault { IfErr result (λ fault. ItemFault items.now fault) }
+    ensures fault { IfErr result (λ fault. ItemFault number items.now fault) }
 {
     let mut bodies = Rows::new(alloc);
     let mut rest = items;
     while let [1, after @ ..] = rest {
         let Some((body, tail)) = split_item(after) else {
-            let at = 21 + (items.len() - rest.len()) as u64;
-            return Err(JournalFault::Corrupt { file: 0, at });
+            let at = FRONT + (items.len() - rest.len()) as u64;
+            return Err(JournalFault::Corrupt { file: number, at });
         };
         if add_body(alloc, &mut bodies, body).is_err() {
             return Err(JournalFault::NoMemory);
         }
         rest = tail;
     }
-    Ok((bodies, 21 + (items.len() - rest.len()) as u64))
+    Ok((bodies, FRONT + (items.len() - rest.len()) as u64))
 }
 
-// The bodies of a file, and the place of its closing gate.
-pub(crate) fn parse(alloc: Global, bytes: &[u8]) -> Result<(Rows<ByteList>, u64), JournalFault>
-    ensures loads { IfOk result (λ r. LoadsAs bytes.now r.0 r.1) }
-    ensures fault { IfErr result (λ fault. FaultOf bytes.now fault) }
+// A journal that was read: what its head names, its bodies, and the place of its closing gate.
+#[derive(Drop)]
+pub(crate) struct Scan {
+    pub(crate) version: u32,
+    pub(crate) generation: u64,
+    pub(crate) bodies: Rows<ByteList>,
+    pub(crate) end: u64,
+}
+
+// The journal that a file of this kind is.
+pub(crate) fn scan_bytes(alloc: Global, bytes: &[u8], kind: FileKind) -> Result<Scan, JournalFault>
+    ensures loads { IfOk result (λ scan. IsScan kind bytes.now scan.version scan.generation scan.bodies scan.end) }
+    ensures fault { IfErr result (λ fault. FileFault kind bytes.now fault) }
 {
-    let items = match open_items(bytes) {
-        Ok(items) => items,
+    let head = match open_items(bytes, kind) {
+        Ok(head) => head,
         Err(fault) => return Err(fault),
     };
-    match read_items(alloc, items) {
-        Ok(read) => Ok(read),
-        Err(fault) => Err(fault),
-    }
+    let (bodies, end) = match read_items(alloc, head.items, kind.number) {
+        Ok(read) => read,
+        Err(fault) => return Err(fault),
+    };
+    Ok(Scan {
+        version: head.version,
+        generation: head.generation,
+        bodies,
+        end,
+    })
 }

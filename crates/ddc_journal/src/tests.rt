@@ -1,166 +1,129 @@
-//! Journals of a few bytes, their crashes and their faults.
+//! Each public call once, against bytes written by hand. All other cases are lines of `case_journal`.
 
-use crate::{Framed, Journal, JournalFault};
-use ddc_disk::{Disk, FileDisk, MemDisk};
+ghost use Rattle.std.specs.Prelude.{◌≡◌, ◌∷◌, [], IfOk};
+
+use crate::pair::{self, Pair};
+use crate::{Framed, Journal};
+use ddc_disk::{Devices, Disk, FileDisk, HeldDevices, MemDisk};
 use ddc_names::{ByteList, NoMemory, Rows};
 use std::alloc::Global;
 use std::fs;
 use std::test::Fail;
 
-const EMPTY: [u8; 22] = [
-    0x44, 0x44, 0x43, 0x4a, 0x4c, 0x4f, 0x47, 0x0a, 0, 0, 0, 0, 1, 0, 0, 0, 0, 0, 0, 0, 1, 0,
+// A journal with the body ab.
+const ONE: [u8; 28] = [
+    0x44, 0x44, 0x43, 0x4a, 0x4c, 0x4f, 0x47, 0x0a, 0, 0, 0, 0, 1, 0, 0, 0, 0, 0, 0, 0, 1, 1, 1, 0,
+    0, 0, 0xab, 0,
 ];
 
-fn disk(alloc: Global, failing: &[u64]) -> Result<MemDisk, NoMemory> {
-    let failing = Vec::from_slice(alloc, failing)?;
-    Ok(MemDisk::new(alloc, Rows::of_vec(failing)))
+// The second file after a checkpoint of the body cd to the version 2.
+const SECOND: [u8; 28] = [
+    0x44, 0x44, 0x43, 0x4a, 0x4c, 0x4f, 0x47, 0x0a, 2, 0, 0, 0, 2, 0, 0, 0, 0, 0, 0, 0, 1, 1, 1, 0,
+    0, 0, 0xcd, 0,
+];
+
+fn empty_disk(alloc: Global) -> MemDisk {
+    MemDisk::new(alloc, Rows::new(alloc))
 }
 
-// How many bodies a disk loads as, where each of them is `ab`.
-fn bodies<D: Disk>(alloc: Global, disk: &mut D) -> Result<usize, JournalFault> {
-    let (_, bodies) = Journal::load(alloc, disk)?;
-    let all_ab = bodies
-        .as_slice()
-        .iter()
-        .all(|body: &ByteList| body.as_slice() == [0xab].as_slice());
-    if all_ab { Ok(bodies.len()) } else { Ok(99) }
+// Whether a disk of 28 bytes holds these.
+fn is_written<D: Disk>(disk: &mut D, wanted: &[u8; 28]) -> bool {
+    let mut bytes = [9; 28];
+    disk.len() == Ok(28) && disk.read(0, &mut bytes) == Ok(()) && bytes == *wanted
 }
 
-// What a disk that holds these bytes loads as.
-fn load_of(alloc: Global, bytes: &[u8]) -> Result<usize, JournalFault> {
-    let Ok(mut disk) = disk(alloc, &[]) else {
-        return Err(JournalFault::NoMemory);
-    };
-    if disk.write_at(0, bytes).is_err() {
-        return Err(JournalFault::NoMemory);
+fn is_one(bodies: &Rows<ByteList>, byte: u8) -> bool {
+    match bodies.as_slice() {
+        [body] => body.as_slice() == [byte].as_slice(),
+        _ => false,
     }
-    bodies(alloc, &mut disk)
 }
 
-#[test]
-fn an_empty_journal_has_22_bytes(rt: HostRuntime) -> Result<(), Fail> {
-    let mut disk = disk(rt.alloc(), &[])?;
-    assert!(rt; bodies(rt.alloc(), &mut disk) == Err(JournalFault::NotMade));
-    assert!(rt; Journal::create(&mut disk, 1).is_ok());
-    assert_eq!(rt; disk.len(), Ok(22));
-    let mut bytes = [9; 22];
-    assert_eq!(rt; disk.read(0, &mut bytes), Ok(()));
-    assert!(rt; bytes == EMPTY);
-    assert!(rt; bodies(rt.alloc(), &mut disk) == Ok(0));
-    Ok(())
-}
-
-#[test]
-fn a_crash_behind_each_call_of_an_append_leaves_the_body_or_not(
-    rt: HostRuntime,
-) -> Result<(), Fail> {
-    let alloc = rt.alloc();
-    let mut disk = disk(alloc, &[])?;
-    let mut journal = Journal::create(&mut disk, 1)?;
-    let before = disk.calls();
-    let item = Framed::new(alloc, &[0xab])?;
-    assert!(rt; journal.append(&mut disk, &item).is_ok());
-    assert_eq!(rt; disk.calls(), before.wrapping_add(4));
-    assert_eq!(rt; disk.len(), Ok(28));
-    for choice in 0..20u64 {
-        for calls in 0..3u64 {
-            assert!(rt;
-                bodies(
-                    alloc,
-                    &mut disk.crashed(before.wrapping_add(calls), choice)?
-                ) == Ok(0)
-            );
-        }
-        let torn = bodies(alloc, &mut disk.crashed(before.wrapping_add(3), choice)?);
-        assert!(rt; torn == Ok((choice == 1 || choice == 2) as usize));
-        assert!(rt; bodies(alloc, &mut disk.crashed(before.wrapping_add(4), choice)?) == Ok(1));
+// Makes a journal and appends the body ab.
+fn make_one<D: Disk>(alloc: Global, disk: &mut D) -> bool {
+    match (Journal::create(disk, 1), Framed::new(alloc, &[0xab])) {
+        (Ok(mut journal), Ok(item)) => journal.append(disk, &item).is_ok(),
+        _ => false,
     }
-    Ok(())
 }
 
-// The write of the item has six bytes past the end. Each is torn to 0 or 1, at each of the seven ends.
-#[test]
-fn each_image_of_an_append_over_two_letters_loads_to_a_prefix(rt: HostRuntime) -> Result<(), Fail> {
-    let alloc = rt.alloc();
-    let mut disk = disk(alloc, &[])?;
-    let mut journal = Journal::create(&mut disk, 1)?;
-    let before = disk.calls();
-    let item = Framed::new(alloc, &[0xab])?;
-    assert!(rt; journal.append(&mut disk, &item).is_ok());
-    for end in 0..7u64 {
-        for letters in 0..64u64 {
-            let mut choice = 0u64;
-            for bit in 0..6u64 {
-                choice = choice.wrapping_mul(256).wrapping_add((letters >> bit) % 2);
-            }
-            let choice = choice.wrapping_mul(14).wrapping_add(end * 2);
-            assert!(rt; bodies(alloc, &mut disk.crashed(before.wrapping_add(1), choice)?) == Ok(0));
-        }
+fn loads_one<D: Disk>(alloc: Global, disk: &mut D) -> bool {
+    match Journal::load(alloc, disk) {
+        Ok((_, bodies)) => is_one(&bodies, 0xab),
+        Err(_) => false,
     }
-    Ok(())
 }
 
 #[test]
-fn a_call_that_fails_in_an_append_leaves_a_journal_that_loads(rt: HostRuntime) -> Result<(), Fail> {
-    let alloc = rt.alloc();
-    let mut made = disk(alloc, &[])?;
-    assert!(rt; Journal::create(&mut made, 1).is_ok());
-    let before = made.calls();
-    for call in 0..4u64 {
-        let mut disk = disk(alloc, &[before.wrapping_add(call)])?;
-        let mut journal = Journal::create(&mut disk, 1)?;
-        let item = Framed::new(alloc, &[0xab])?;
-        assert!(rt; journal.append(&mut disk, &item) == Err(JournalFault::DiskFailed));
-        assert_eq!(rt; disk.faults(), 1);
-        assert!(rt; bodies(alloc, &mut disk) == Ok((call == 3) as usize));
-    }
-    Ok(())
-}
-
-#[test]
-fn a_gate_that_is_neither_0_nor_1_is_closed(rt: HostRuntime) {
-    let mut bytes = EMPTY;
-    bytes[21] = 7;
-    assert!(rt; load_of(rt.alloc(), &bytes) == Ok(0));
-    bytes[20] = 7;
-    assert!(rt; load_of(rt.alloc(), &bytes) == Err(JournalFault::NotMade));
-}
-
-#[test]
-fn each_fault_of_the_bytes_is_told_with_its_place(rt: HostRuntime) {
-    let alloc = rt.alloc();
-    let mut bytes = EMPTY;
-    bytes[12] = 0;
-    assert!(rt; load_of(alloc, &bytes) == Err(JournalFault::NotMade));
-    bytes[12] = 5;
-    bytes[8] = 9;
-    assert!(rt; load_of(alloc, &bytes) == Err(JournalFault::BadVersion { found: 9 }));
-    bytes[0] = 0;
-    assert!(rt; load_of(alloc, &bytes) == Err(JournalFault::Corrupt { file: 0, at: 0 }));
-    assert!(rt; load_of(alloc, &EMPTY[..21]) == Err(JournalFault::Corrupt { file: 0, at: 20 }));
-    let mut open = EMPTY;
-    open[21] = 1;
-    assert!(rt; load_of(alloc, &open) == Err(JournalFault::Corrupt { file: 0, at: 21 }));
+fn a_journal_of_one_body_has_28_bytes(rt: HostRuntime) {
+    let mut disk = empty_disk(rt.alloc());
+    assert!(rt; make_one(rt.alloc(), &mut disk));
+    assert!(rt; is_written(&mut disk, &ONE));
+    assert!(rt; loads_one(rt.alloc(), &mut disk));
 }
 
 #[test]
 fn a_journal_on_a_file_gives_its_bodies_back(rt: HostRuntime) -> Result<(), Fail> {
-    let alloc = rt.alloc();
     let folder = "ddc_journal_test";
     let _ = fs::remove_dir_all(&rt, folder);
     fs::create_dir(&rt, folder)?;
-    let mut disk = FileDisk::at_path(rt, alloc, "ddc_journal_test/first")?;
-    let mut journal = Journal::create(&mut disk, 3)?;
-    for _ in 0..3u64 {
-        assert!(rt;
-            journal
-                .append(&mut disk, &Framed::new(alloc, &[0xab])?)
-                .is_ok()
-        );
-    }
+    let mut disk = FileDisk::at_path(rt, rt.alloc(), "ddc_journal_test/first")?;
+    assert!(rt; make_one(rt.alloc(), &mut disk));
     drop(disk);
-    let mut again = FileDisk::at_path(rt, alloc, "ddc_journal_test/first")?;
-    assert!(rt; bodies(alloc, &mut again) == Ok(3));
+    let mut again = FileDisk::at_path(rt, rt.alloc(), "ddc_journal_test/first")?;
+    assert!(rt; loads_one(rt.alloc(), &mut again));
     fs::remove_dir_all(&rt, folder)?;
     Ok(())
+}
+
+fn made_pair(alloc: Global, held: &mut HeldDevices<MemDisk>) -> Option<Pair> {
+    match (pair::create(held, 1), Framed::new(alloc, &[0xab])) {
+        (Ok(mut pair), Ok(item)) => pair.append(held, &item).is_ok().then_some(pair),
+        _ => None,
+    }
+}
+
+fn next_bodies(alloc: Global) -> Result<Rows<ByteList>, NoMemory>
+    ensures { IfOk result (λ bodies. bodies ≡ (205 ∷ []) ∷ []) }
+{
+    let mut bodies = Rows::new(alloc);
+    let body = Vec::from_slice(alloc, &[0xcd])?;
+    bodies.push(Rows::of_vec(body))?;
+    Ok(bodies)
+}
+
+// Whether a checkpoint of the body cd makes the second file the active one.
+fn turns(alloc: Global, held: &mut HeldDevices<MemDisk>, mut pair: Pair) -> bool {
+    match next_bodies(alloc) {
+        Ok(bodies) => {
+            pair.checkpoint(alloc, held, &bodies, 2).is_ok()
+                && pair.active() == 1
+                && pair.version() == 2
+        }
+        Err(NoMemory) => false,
+    }
+}
+
+fn loads_next(alloc: Global, held: &mut HeldDevices<MemDisk>) -> bool {
+    match pair::load(alloc, held, 2) {
+        Ok((pair, bodies)) => pair.active() == 1 && is_one(&bodies, 0xcd),
+        Err(_) => false,
+    }
+}
+
+#[test]
+fn a_checkpoint_writes_the_other_file(rt: HostRuntime) {
+    let alloc = rt.alloc();
+    let mut held = HeldDevices::new(Devices {
+        first: empty_disk(alloc),
+        second: empty_disk(alloc),
+        blobs: empty_disk(alloc),
+    });
+    let made = match made_pair(alloc, &mut held) {
+        Some(pair) => turns(alloc, &mut held, pair),
+        None => false,
+    };
+    assert!(rt; made);
+    assert!(rt; is_written(held.second(), &SECOND));
+    assert!(rt; loads_next(alloc, &mut held));
 }

@@ -67,7 +67,7 @@ SameHashes xs ys = (hash : IoHash) → has_hash xs hash ≡ has_hash ys hash
 is_not : (b : Bool) → b ≡ true → b ≡ false → ⊥
 is_not b e f = let g : true ≡ false = sym e ∙ f in cc
 
--- behind a shared first hash the same hashes follow
+-- after a shared first hash the same hashes follow
 same_behind : (x : IoHash) (xs ys : List IoHash) → AllByRecursion (λ y. io_hash_cmp x y ≡ Less) xs → AllByRecursion (λ y. io_hash_cmp x y ≡ Less) ys → SameHashes (x ∷ xs) (x ∷ ys) → SameHashes xs ys
 same_behind x xs ys below above same hash = split (io_hash_cmp hash x) refl where
   either : (b c d : Bool) → b ≡ false → (b || c) ≡ (b || d) → c ≡ d

@@ -60,7 +60,7 @@ IsLawful s (Put name root fresh whole hour) = (whole ≡ true) ↔ IsWhole (link
 IsLawful s (Finalise name hash hour) = IsWhole (links_in s name.space) hash
 IsLawful s entry = ⊤
 
--- the steps behind an opening at this count of faults; nothing follows one that broke the store
+-- the steps after an opening at this count of faults; nothing follows one that broke the store
 abbrev pub AreLawful : ℕ → State → List Step → Type 0
 AreLawful faults s [] = ⊤
 AreLawful faults s (Loaded limits count ∷ steps) = ⊥

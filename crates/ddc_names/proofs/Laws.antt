@@ -46,7 +46,7 @@ length-name text h = let within = (rest_of_name 0 text (omega arith) h).0 in ome
 pub IsUtf8-name : (text : List ℕ) → name_fault text ≡ None → IsUtf8 text
 IsUtf8-name text h = IsUtf8-from_ascii text (rest_of_name 0 text (omega arith) h).1
 
--- behind a name's first byte any byte of a name may stand
+-- after a name's first byte any byte of a name may stand
 later_byte : (at b : ℕ) → 0 < at → is_name_byte_at at b ≡ is_name_byte b
 later_byte at b later =
     let test : (at == 0) ≡ false = grind (arith, nat_tests) in
@@ -96,7 +96,7 @@ name_fault-none (b ∷ rest) = (
       rw front.1 ih,
 )
 
--- behind a first place, a text has a byte that may stand there
+-- after a first place, a text has a byte that may stand there
 abbrev Stands : (ℕ → ℕ → Bool) → ℕ → ℕ → List ℕ → ℕ → Type 0
 Stands allowed most at text j = (j < length text) × (at + j < most) × (allowed (at + j) (slice_index text j) ≡ true)
 

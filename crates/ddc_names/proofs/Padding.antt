@@ -1,4 +1,4 @@
--- Texts with zeros behind them.
+-- Texts with zeros after them.
 use Rattle.std.proofs.Common.{◌≡◌, ℕ, List, ◌++◌, length, drop, replicate, ap, ◌∙◌}
 use Rattle.std.proofs.lemmas.List.{drop-replicate}
 use Rattle.ddc_names.specs.Texts.{in_64_bytes}

@@ -63,11 +63,11 @@ bytes_of [] = []
 bytes_of (high ∷ []) = []
 bytes_of (high ∷ low ∷ rest) = (digit_of high * 16 + digit_of low) ∷ bytes_of rest
 
--- a text with zeros behind it, 64 bytes in all
+-- a text with zeros after it, 64 bytes in all
 abbrev pub in_64_bytes : List ℕ → List ℕ
 in_64_bytes text = text ++ replicate {A = ℕ} (64 - length text) 0
 
--- the first `len` of 64 bytes are a name, and zeros stand behind it
+-- the first `len` of 64 bytes are a name, and zeros stand after it
 pub record IsNamed (bytes : List ℕ) (len : ℕ) : Type 0 where
   pub named : name_fault (take len bytes) ≡ None
   pub zeros : bytes ≡ in_64_bytes (take len bytes)

@@ -18,7 +18,7 @@ pub struct BadName {
     pub at: u32,
 }
 
-// A name's text in a fixed array, with zeros behind it.
+// A name's text in a fixed array, with zeros after it.
 #[derive(Clone, Copy)]
 struct Name {
     bytes: [u8; 64],

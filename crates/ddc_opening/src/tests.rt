@@ -23,9 +23,7 @@ fn devices(alloc: Global) -> HeldDevices<MemDisk> {
 }
 
 // How many changes a store was opened with, and the times of the namespace `game`.
-fn found(
-    opened: Result<OpenedStore, OpenFault>,
-) -> Result<(usize, Option<SpaceRow>), OpenFault> {
+fn found(opened: Result<OpenedStore, OpenFault>) -> Result<(usize, Option<SpaceRow>), OpenFault> {
     let store = opened?;
     let times = match Namespace::parse("game") {
         Ok(game) => store.tables.index.space(&game),

@@ -12,10 +12,10 @@ use Rattle.cb_fields.specs.Language.{IsObject}
 use Rattle.cb_fields.proofs.Theorems.{fault_is_no_object, one_fault}
 use Rattle.ddc_model.specs.Content.{Content, IsContent, AreLinksOf}
 use Rattle.ddc_model.proofs.Once.{content_once}
-use Rattle.ddc_protocol.specs.declared.form.Form.{Form}
-use Rattle.ddc_protocol.specs.declared.form.Form.TheVariants.{PutBlob, GetBlob, PutRef, GetRef, Finalise}
-use Rattle.ddc_protocol.specs.Form.{form_of}
-use Rattle.ddc_protocol.specs.Requests.{IsHead, body_length, Item, put_blob, put_ref, not_object, Asks, stores, mismatches, fetches, puts, breaks, reads, finalises, Spells, IsUnread, IsCut, HasNoItem, Begins, End, closed, cut, unread, spent, most_items, EndsAs, Cuts}
+use Rattle.ddc_protocol.specs.declared.request_form.RequestForm.{RequestForm}
+use Rattle.ddc_protocol.specs.declared.request_form.RequestForm.TheVariants.{PutBlob, GetBlob, PutRef, GetRef, Finalise}
+use Rattle.ddc_protocol.specs.HeadForms.{form_of_head}
+use Rattle.ddc_protocol.specs.Requests.{IsHead, body_length, Item, put_blob, put_ref, not_object, Asks, stores, mismatches, fetches, puts, breaks, reads, finalises, IsRequestText, IsUnread, IsCut, HasNoRequestText, Begins, End, closed, cut, unread, spent, most_items, EndsAs, Cuts}
 use Rattle.ddc_protocol.specs.Laws.{SameEnd, same, hopeless_cut, hopeless_unread, OneCut}
 
 pub record SameItem (r q : List ℕ) (i j : Item) : Type 0 where
@@ -23,15 +23,15 @@ pub record SameItem (r q : List ℕ) (i j : Item) : Type 0 where
   pub item : i ≡ j
 
 -- the head of a whole request, and what follows it in the bytes
-pub behind_head : (bytes text rest : List ℕ) (item : Item) (s : Spells text item) → bytes ≡ text ++ rest → bytes ≡ print_request s.head ++ (s.body ++ rest)
-behind_head bytes text rest item s e = e ∙ ap (λ l. l ++ rest) s.spelled ∙ append_assoc (print_request s.head) s.body rest
+pub after_head : (bytes text rest : List ℕ) (item : Item) (s : IsRequestText text item) → bytes ≡ text ++ rest → bytes ≡ print_request s.head ++ (s.body ++ rest)
+after_head bytes text rest item s e = e ∙ ap (λ l. l ++ rest) s.spelled ∙ append_assoc (print_request s.head) s.body rest
 
 -- the bytes of contents that are an object are one
 object_at : (content : Content) (body : List ℕ) → content.bytes ≡ body → IsContent content → content.is_object ≡ true → IsObject body content.links
 object_at content body e k o = subst (λ (bytes : List ℕ). IsObject bytes content.links) e (subst (λ (b : Bool). AreLinksOf content.bytes b content.links) o k)
 
 -- one form and one body ask one thing
-asks_once : (form : Form) (body : List ℕ) (item other : Item) → Asks body form item → Asks body form other → item ≡ other
+asks_once : (form : RequestForm) (body : List ℕ) (item other : Item) → Asks body form item → Asks body form other → item ≡ other
 asks_once (PutBlob space hash size) body _ _ (stores c e k t) (stores d f l u) = ap (put_blob space) (content_once c d (e ∙ sym f) k l)
 asks_once (PutBlob space hash size) body _ _ (stores c e k t) (mismatches u) = absurd (let g : true ≡ false = sym t ∙ u in cc)
 asks_once (PutBlob space hash size) body _ _ (mismatches t) (stores d f l u) = absurd (let g : true ≡ false = sym u ∙ t in cc)
@@ -44,18 +44,18 @@ asks_once (PutRef name size) body _ _ (breaks {at = a} h) (breaks {at = b} g) = 
 asks_once (GetRef name) body _ _ reads reads = refl
 asks_once (Finalise name hash) body _ _ finalises finalises = refl
 
-pub spells_unique : (t u r q : List ℕ) (i j : Item) → Spells t i → Spells u j → t ++ r ≡ u ++ q → SameItem r q i j
+pub spells_unique : (t u r q : List ℕ) (i j : Item) → IsRequestText t i → IsRequestText u j → t ++ r ≡ u ++ q → SameItem r q i j
 spells_unique t u r q i j s z e =
-    let left = behind_head (t ++ r) t r i s refl in
-    let right = behind_head (t ++ r) u q j z e in
+    let left = after_head (t ++ r) t r i s refl in
+    let right = after_head (t ++ r) u q j z e in
     let same = request_unique (t ++ r) s.head z.head (s.body ++ r) (z.body ++ q) (s.is_head.valid, left) (z.is_head.valid, right) in
-    let asks : Some s.form ≡ Some z.form = sym s.asks ∙ ap form_of same.0 ∙ z.asks in
+    let asks : Some s.form ≡ Some z.form = sym s.asks ∙ ap form_of_head same.0 ∙ z.asks in
     let forms : s.form ≡ z.form = cc in
     let long : length z.body ≡ length s.body = z.whole ∙ ap body_length (sym forms) ∙ sym s.whole in
     let bodies : s.body ≡ z.body = sym (take_at s.body r (length s.body) refl) ∙ ap (take (length s.body)) same.1 ∙ take_at z.body q (length s.body) long in
     record {
       rest = sym (drop_at s.body r (length s.body) refl) ∙ ap (drop (length s.body)) same.1 ∙ drop_at z.body q (length s.body) long;
-      item = asks_once z.form z.body i j (subst (λ (b : List ℕ). Asks b z.form i) bodies (subst (λ (f : Form). Asks s.body f i) forms s.item_is)) z.item_is;
+      item = asks_once z.form z.body i j (subst (λ (b : List ℕ). Asks b z.form i) bodies (subst (λ (f : RequestForm). Asks s.body f i) forms s.item_is)) z.item_is;
     }
 
 -- a request has a head, which has a byte
@@ -66,24 +66,24 @@ longer a b c full e =
     omega arith
 
 -- no whole request stands where a stream has ended
-pub no_item-at_end : (count : ℕ) (rest : List ℕ) (end : End) → count < most_items → EndsAs count rest end → HasNoItem rest
+pub no_item-at_end : (count : ℕ) (rest : List ℕ) (end : End) → count < most_items → EndsAs count rest end → HasNoRequestText rest
 no_item-at_end count rest closed few h item text tail s e =
-    let split = behind_head rest text tail item s e in
+    let split = after_head rest text tail item s e in
     longer _ s.head.method _ s.is_head.valid.method.0 (sym (print_request-append s.head (s.body ++ tail)) ∙ sym split ∙ h.1)
-no_item-at_end count rest cut few (_, inl h) item text tail s e = h.1 s.head (s.body ++ tail) s.is_head (behind_head rest text tail item s e)
+no_item-at_end count rest cut few (_, inl h) item text tail s e = h.1 s.head (s.body ++ tail) s.is_head (after_head rest text tail item s e)
 no_item-at_end count rest cut few (_, inr h) item text tail s e =
-    let split = behind_head rest text tail item s e in
+    let split = after_head rest text tail item s e in
     let same = request_unique rest h.head s.head h.rest (s.body ++ tail) (h.is_head.valid, h.spelled) (s.is_head.valid, split) in
-    let asks : Some h.form ≡ Some s.form = sym h.asks ∙ ap form_of same.0 ∙ s.asks in
+    let asks : Some h.form ≡ Some s.form = sym h.asks ∙ ap form_of_head same.0 ∙ s.asks in
     let forms : h.form ≡ s.form = cc in
     let long : length h.rest ≡ length s.body + length tail = ap length same.1 ∙ length-append s.body tail in
     let body : length s.body ≡ body_length h.form = s.whole ∙ ap body_length (sym forms) in
     let lacks = h.lacks in
     absurd (omega arith)
-no_item-at_end count rest unread few (_, inl h) item text tail s e = h [] s.head (s.body ++ tail) s.is_head (append-nil rest ∙ behind_head rest text tail item s e)
+no_item-at_end count rest unread few (_, inl h) item text tail s e = h [] s.head (s.body ++ tail) s.is_head (append-nil rest ∙ after_head rest text tail item s e)
 no_item-at_end count rest unread few (_, inr h) item text tail s e =
-    let same = request_unique rest h.head s.head h.rest (s.body ++ tail) (h.is_head.valid, h.spelled) (s.is_head.valid, behind_head rest text tail item s e) in
-    let asks : None ≡ Some s.form = sym h.asks ∙ ap form_of same.0 ∙ s.asks in
+    let same = request_unique rest h.head s.head h.rest (s.body ++ tail) (h.is_head.valid, h.spelled) (s.is_head.valid, after_head rest text tail item s e) in
+    let asks : None ≡ Some s.form = sym h.asks ∙ ap form_of_head same.0 ∙ s.asks in
     cc
 no_item-at_end count rest spent few h item text tail s e = absurd (omega arith)
 
@@ -160,7 +160,7 @@ cut_or_unread rest (inl h) (inr other) = absurd (h.1 other.head other.rest other
 cut_or_unread rest (inr h) (inl never) = hopeless_cut never
 cut_or_unread rest (inr h) (inr other) =
     let same = request_unique rest h.head other.head h.rest other.rest (h.is_head.valid, h.spelled) (other.is_head.valid, other.spelled) in
-    let asks : Some h.form ≡ None = sym h.asks ∙ ap form_of same.0 ∙ other.asks in
+    let asks : Some h.form ≡ None = sym h.asks ∙ ap form_of_head same.0 ∙ other.asks in
     cc
 
 same_end : (count : ℕ) (rest : List ℕ) (end other : End) → EndsAs count rest end → EndsAs count rest other → SameEnd rest end other
@@ -176,12 +176,12 @@ same_end count rest spent cut e f = absurd (omega (arith, e, f.0))
 same_end count rest spent unread e f = absurd (omega (arith, e, f.0))
 same_end count rest spent spent e f = same spent
 
--- what is left behind the items is what stands behind their bytes
+-- what is left after the items is what stands after their bytes
 begins_front : (items : List Item) (bytes rest : List ℕ) → Begins bytes items rest → (front : List ℕ) × (bytes ≡ front ++ rest)
 begins_front [] bytes rest h = ([], h)
 begins_front (item ∷ items) bytes rest (text, tail, split, spells, more) =
-    let (front, behind) = begins_front items tail rest more in
-    (text ++ front, split ∙ ap (λ l. text ++ l) behind ∙ sym (append_assoc text front rest))
+    let (front, after) = begins_front items tail rest more in
+    (text ++ front, split ∙ ap (λ l. text ++ l) after ∙ sym (append_assoc text front rest))
 
 rest_at : (bytes : List ℕ) (items : List Item) (at : ℕ) (end : End) (h : Cuts bytes items at end) → drop at bytes ≡ h.rest
 rest_at bytes items at end h =

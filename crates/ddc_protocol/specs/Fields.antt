@@ -18,6 +18,6 @@ abbrev pub values_of : List ℕ → List (List ℕ × List ℕ) → List (List �
 values_of name [] = []
 values_of name (field ∷ fields) = if same_name field.0 name then field.1 ∷ values_of name fields else values_of name fields
 
--- the number that 1 to 19 digits write
-abbrev pub number : List ℕ → Option ℕ
-number text = if nat_le 1 (length text) && nat_le (length text) 19 && all_ascii_digits text then Some (digits_value 10 text) else None
+-- the number that 1 to `most` decimal digits write
+abbrev pub decimal_value : ℕ → List ℕ → Option ℕ
+decimal_value most text = if nat_le 1 (length text) && nat_le (length text) most && all_ascii_digits text then Some (digits_value 10 text) else None

@@ -1,5 +1,5 @@
 pub mod Fields
-pub mod Form
+pub mod HeadForms
 pub mod Requests
 pub mod Replies
 pub mod Laws

@@ -49,7 +49,7 @@ impl Intake {
         }
     }
 
-    /// Takes a piece behind the bytes taken before.
+    /// Takes a piece after the bytes taken before.
     ///
     /// # Errors
     ///

@@ -34,6 +34,6 @@ abbrev pub reads_after : State → Option RefName → Met → ℕ
 reads_after s None met = len s.blobs
 reads_after s (Some last) met = most_reads s last.space met
 
--- how many references stand behind this one
+-- how many references stand after this one
 abbrev pub count_behind : Slots → Option RefName → ℕ
 count_behind slots last = length (filter (λ e. is_behind last e.0) (entries slots))

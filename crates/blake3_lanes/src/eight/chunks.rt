@@ -2,7 +2,7 @@
 ghost use Rattle.std.specs.Prelude.{◌≡◌, ℕ, ◌+◌, ◌-◌, ◌*◌, ◌/◌, ◌%◌, ◌^◌, ◌<◌, ◌≤◌, List, [], length, take, drop, slice_index, slice_index_or};
 ghost use Rattle.tree_hash.specs.TreeHash.{block_words, chunk_value, word_at};
 ghost use Rattle.blake3_hash.specs.Spine.{leaves};
-ghost use Rattle.blake3_lanes.specs.Lanes.{lane};
+ghost use Rattle.blake3_lanes.specs.inside.Lanes.{lane};
 
 use super::kernel::{compress, rows, start_values};
 use super::vectors::{Zeros, kept, load, read_ahead, transpose};

@@ -1,7 +1,7 @@
 // The compression of eight blocks side by side (BLAKE3 specification, section 2.2).
 ghost use Rattle.std.specs.Prelude.{◌≡◌, ℕ, ◌+◌, ◌*◌, ◌/◌, ◌%◌, ◌^◌, ◌<◌, List, [], slice_index, slice_index_or};
 ghost use Rattle.tree_hash.specs.TreeHash.{compress_words, folded, half_mix, iv, permute, round, start_state};
-ghost use Rattle.blake3_lanes.specs.Lanes.{lane, mix_columns, mix_diagonals};
+ghost use Rattle.blake3_lanes.specs.inside.Lanes.{lane, mix_columns, mix_diagonals};
 
 use super::vectors::{add, splat, xor, xor_rotate};
 use std::simd::prelude::*;

@@ -2,7 +2,7 @@
 ghost use Rattle.std.specs.Prelude.{◌≡◌, ℕ, ◌+◌, ◌*◌, ◌<◌, ◌≤◌, List, [], ◌∷◌, length, slice_index, slice_index_or, bit_xor};
 ghost use Rattle.std.specs.Int.{w32, rotate_right};
 ghost use Rattle.tree_hash.specs.TreeHash.{add32, word_at};
-ghost use Rattle.blake3_lanes.specs.Lanes.{no_words8};
+ghost use Rattle.blake3_lanes.specs.inside.Lanes.{no_words8};
 
 use std::simd::prelude::*;
 

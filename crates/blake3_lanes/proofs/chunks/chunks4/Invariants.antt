@@ -1,6 +1,6 @@
 use Rattle.std.proofs.Common.{◌≡◌, ℕ, ◌<◌, ◌+◌, ◌*◌, take, drop}
 use Rattle.tree_hash.specs.TreeHash.{chunk_after}
-use Rattle.blake3_lanes.specs.Lanes.{lane}
+use Rattle.blake3_lanes.specs.inside.Lanes.{lane}
 use Rattle.blake3_lanes.proofs.chunks.chunks4.Given as goal
 
 abbrev pub invariant-each_block : goal.invariant-each_block

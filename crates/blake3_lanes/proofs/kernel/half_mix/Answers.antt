@@ -1,13 +1,13 @@
 use Rattle.std.proofs.Common.{ℕ, List, refl, slice_index, slice_set, bit_xor, w32}
 use Rattle.std.specs.Int.{rotate_right}
 use Rattle.tree_hash.specs.TreeHash.{add32, half_mix}
-use Rattle.blake3_lanes.specs.Lanes.{lane}
+use Rattle.blake3_lanes.specs.inside.Lanes.{lane}
 use Rattle.blake3_lanes.proofs.LaneLemmas.{lane_get, lane_set}
 use Rattle.blake3_lanes.proofs.kernel.half_mix.Goals as goal
 
 pub returns : goal.returns
 unfolding half_mix
-returns c j h =
+returns g c j h =
     let v : List (List ℕ) = c.args.v.now in
     let v1 : List (List ℕ) = slice_set v c.args.a c.add-2.result in
     let v2 : List (List ℕ) = slice_set v1 c.args.d c.xor_rotate.result in

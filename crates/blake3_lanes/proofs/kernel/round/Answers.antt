@@ -1,6 +1,6 @@
 use Rattle.std.proofs.Common.{refl}
 use Rattle.tree_hash.specs.TreeHash.{round}
-use Rattle.blake3_lanes.specs.Lanes.{mix_columns, mix_diagonals}
+use Rattle.blake3_lanes.specs.inside.Lanes.{mix_columns, mix_diagonals}
 use Rattle.blake3_lanes.proofs.kernel.round.Goals as goal
 
 pub returns : goal.returns

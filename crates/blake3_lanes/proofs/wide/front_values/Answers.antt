@@ -21,11 +21,11 @@ plain-preserved c =
     let n : ℕ = c.args.number in
     let b : List ℕ = c.args.buffer.now in
     let width : 1024 * k + 1024 - 1024 * k ≡ 1024 = omega arith in
-    let value : c.chunk_value.result ≡ chunk_value (take 1024 (drop (1024 * k) b)) (n + k) 0 = rw width at c.chunk_value.ensures in
-    let more : leaves (k + 1) b n ≡ leaves k b n ++ c.chunk_value.result ∷ [] = rw (add-one, value) (leaves-snoc k b n) in (
-      length-set c.plain.values k c.chunk_value.result ∙ c.plain.invariant.0,
-      take_more_set c.plain.values k c.chunk_value.result (omega (arith, c.plain.invariant.0))
-          ∙ ap (λ (r : List (List ℕ)). r ++ c.chunk_value.result ∷ []) c.plain.invariant.1 ∙ sym more,
+    let value : c.flagged_chunk.result ≡ chunk_value (take 1024 (drop (1024 * k) b)) (n + k) 0 = rw width at c.flagged_chunk.ensures in
+    let more : leaves (k + 1) b n ≡ leaves k b n ++ c.flagged_chunk.result ∷ [] = rw (add-one, value) (leaves-snoc k b n) in (
+      length-set c.plain.values k c.flagged_chunk.result ∙ c.plain.invariant.0,
+      take_more_set c.plain.values k c.flagged_chunk.result (omega (arith, c.plain.invariant.0))
+          ∙ ap (λ (r : List (List ℕ)). r ++ c.flagged_chunk.result ∷ []) c.plain.invariant.1 ∙ sym more,
     )
 
 pub returns : goal.returns

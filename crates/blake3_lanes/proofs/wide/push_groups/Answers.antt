@@ -2,7 +2,7 @@ use Rattle.std.proofs.Common.{◌≡◌, ℕ, List, ◌+◌, ◌*◌, ◌++◌, 
 use Rattle.blake3_hash.specs.Spine.{leaves}
 use Rattle.blake3_hash.proofs.Held.{leaves-append}
 use Rattle.blake3_hash.proofs.Leaves.{length-leaves}
-use Rattle.blake3_lanes.proofs.Groups.{group_behind}
+use Rattle.blake3_lanes.proofs.Groups.{group_after}
 use Rattle.blake3_lanes.proofs.wide.push_groups.Goals as goal
 
 pub returns-then-groups-eq0-clause-pushed : goal.returns-then-groups-eq0-clause-pushed
@@ -26,7 +26,7 @@ groups-preserved c = record {
       let n : ℕ = c.args.spine.now.count in
       let b : List ℕ = c.args.bytes.now in
       let rows : List (List ℕ) = leaves 8 (take 8192 (drop (8192 * k) b)) (n + 8 * k) in
-      rw (group_behind n k m b rows len refl)
+      rw (group_after n k m b rows len refl)
       (c.push_subtree.ensures.pushed (leaves (n + 8 * k) (m ++ b) 0) rows (c.groups.invariant.pushed m len h)
       (length-leaves 8 (take 8192 (drop (8192 * k) b)) (n + 8 * k))
       (sym (c.halves8-tree.ensures.waited ∙ c.groups.invariant.waits)));
@@ -39,7 +39,7 @@ returns-clause-pushed c m len h =
     let b : List ℕ = c.args.bytes.now in
     let rows : List (List ℕ) = leaves 8 (take 8192 (drop (8192 * k) b)) (n + 8 * k) in
     let all : n + 8 * c.args.groups ≡ n + 8 * (k + 1) = omega arith in
-    rw (all, group_behind n k m b rows len refl)
+    rw (all, group_after n k m b rows len refl)
     (c.push_subtree-2.ensures.pushed (leaves (n + 8 * k) (m ++ b) 0) rows (c.groups.invariant.pushed m len h)
     (length-leaves 8 (take 8192 (drop (8192 * k) b)) (n + 8 * k))
     (sym (c.parent_value.ensures ∙ c.groups.invariant.waits)))

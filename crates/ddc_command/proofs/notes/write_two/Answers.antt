@@ -1,15 +1,15 @@
+use Rattle.ddc_service.specs.Effects.{effect}
 use Rattle.ddc_command.proofs.Noting.{notes_first, notes_then}
 use Rattle.ddc_command.proofs.notes.write_two.Goals as goal
 
 pub returns-in-Ok : goal.returns-in-Ok
 returns-in-Ok g c = record {
-  gives = notes_then (g.N.Sink.written c.args.notes.now) (g.N.Sink.written c.write_note.new.notes) (g.N.Sink.written c.write_note-in-Ok.new.notes)
-      (g.N.Sink.faults c.args.notes.now) (g.N.Sink.faults c.write_note.new.notes) (g.N.Sink.faults c.write_note-in-Ok.new.notes)
+  gives = notes_then g.N.Sink.written g.N.Sink.faults c.args.notes.now c.write_note.new.notes c.write_note-in-Ok.new.notes
       c.args.first.now c.args.second.now c.write_note-in-Ok.result c.in-Ok.ensures.gives c.write_note-in-Ok.ensures.gives;
 }
 
 pub returns-in-Err : goal.returns-in-Err
 returns-in-Err g c = record {
-  gives = notes_first (g.N.Sink.written c.args.notes.now) (g.N.Sink.written c.write_note.new.notes) (g.N.Sink.faults c.args.notes.now) (g.N.Sink.faults c.write_note.new.notes)
+  gives = notes_first (effect g.N.Sink.written g.N.Sink.faults c.args.notes.now c.write_note.new.notes)
       c.args.first.now c.args.second.now c.in-Err.failed c.in-Err.ensures.gives;
 }

@@ -1,17 +1,17 @@
 use Rattle.std.proofs.Common.{codes}
-use Rattle.ddc_command.specs.Top.{reference_text}
+use Rattle.ddc_service.specs.Effects.{effect}
+use Rattle.ddc_command.specs.Notes.{reference_text}
 use Rattle.ddc_command.proofs.Noting.{notes_first, notes_then}
 use Rattle.ddc_command.proofs.notes.write_unsound.Goals as goal
 
 pub returns-in-Ok : goal.returns-in-Ok
 returns-in-Ok g c = record {
-  gives = notes_then (g.N.Sink.written c.args.notes.now) (g.N.Sink.written c.write_note.new.notes) (g.N.Sink.written c.write_reference.new.notes)
-      (g.N.Sink.faults c.args.notes.now) (g.N.Sink.faults c.write_note.new.notes) (g.N.Sink.faults c.write_reference.new.notes)
+  gives = notes_then g.N.Sink.written g.N.Sink.faults c.args.notes.now c.write_note.new.notes c.write_reference.new.notes
       (codes "unsound ") (reference_text c.args.name) c.write_reference.result c.in-Ok.ensures.gives c.write_reference.ensures.gives;
 }
 
 pub returns-in-Err : goal.returns-in-Err
 returns-in-Err g c = record {
-  gives = notes_first (g.N.Sink.written c.args.notes.now) (g.N.Sink.written c.write_note.new.notes) (g.N.Sink.faults c.args.notes.now) (g.N.Sink.faults c.write_note.new.notes)
+  gives = notes_first (effect g.N.Sink.written g.N.Sink.faults c.args.notes.now c.write_note.new.notes)
       (codes "unsound ") (reference_text c.args.name) c.in-Err.failed c.in-Err.ensures.gives;
 }

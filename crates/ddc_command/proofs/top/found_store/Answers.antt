@@ -3,10 +3,11 @@ use Rattle.std.specs.Prelude.{IfSome, ◌⊎◌}
 use Rattle.ddc_names.specs.Causes.{Rose}
 use Rattle.ddc_disk.specs.Images.{devices_faults}
 use Rattle.ddc_model.specs.declared.rows.Limits.{Limits}
-use Rattle.ddc_book.specs.Opening.{OpenFaultOf}
-use Rattle.ddc_book.specs.Loading.{Creates, IsCreated, IsLoaded}
-use Rattle.ddc_book.specs.declared.fault.OpenFault.TheVariants.{DiskFailed}
-use Rattle.ddc_command.specs.Top.{is_unmade}
+use Rattle.ddc_opening.specs.Opening.{OpenFaultOf}
+use Rattle.ddc_opening.specs.Loading.{Creates}
+use Rattle.ddc_book.specs.Loading.{IsCreated, IsLoaded}
+use Rattle.ddc_opening.specs.declared.fault.OpenFault.TheVariants.{DiskFailed}
+use Rattle.ddc_command.specs.inside.Parts.{is_unmade}
 use Rattle.ddc_command.proofs.Finding.{finds_loaded, finds_created, fails_unopened, fails_uncreated}
 use Rattle.ddc_command.proofs.top.found_store.Goals as goal
 

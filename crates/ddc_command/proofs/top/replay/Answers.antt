@@ -1,24 +1,25 @@
-use Rattle.std.proofs.Common.{subst}
+use Rattle.std.proofs.Common.{refl, subst}
 use Rattle.ddc_model.specs.declared.rows.Limits.{Limits}
 use Rattle.ddc_book.specs.Loading.{IsLoaded}
-use Rattle.ddc_command.proofs.Opened.{is_unbroken}
+use Rattle.ddc_service.specs.Effects.{effect}
+use Rattle.ddc_command.specs.Ends.{scene}
+use Rattle.ddc_service.proofs.Opened.{is_unbroken}
 use Rattle.ddc_command.proofs.Replaying.{replays, replay_unopened}
 use Rattle.ddc_command.proofs.top.replay.Goals as goal
 
-pub run_session-served-requires : goal.run_session-served-requires
-run_session-served-requires g c = is_unbroken c.standard.result c.in-Ok.book.steps c.in-Ok.ensures.loaded.steps
+pub replay_session-end-requires : goal.replay_session-end-requires
+replay_session-end-requires g c = is_unbroken c.standard.result c.in-Ok.book.steps c.in-Ok.ensures.loaded.steps
 
 pub returns-in-Ok-clause-ends : goal.returns-in-Ok-clause-ends
 returns-in-Ok-clause-ends g c =
     let P : Limits → Type 0 = λ l. IsLoaded g.D.Disk.meaning c.args.devices l c.in-Ok.book in
-    let run = c.run_session-served in
-    replays g.D.Disk.tells g.D.Disk.meaning c.args.devices c.in-Ok.book run.new.book (g.C.Clock.tells c.args.clock.now) (g.S.Source.left c.args.source.now) (g.S.Source.left run.new.source)
-    (g.W.Sink.written c.args.sink.now) (g.W.Sink.written run.new.sink) (g.S.Source.faults c.args.source.now) (g.S.Source.faults run.new.source) (g.W.Sink.faults c.args.sink.now) (g.W.Sink.faults run.new.sink)
-    run.result (subst P c.standard.ensures c.in-Ok.ensures.loaded) run.ensures.gives run.ensures.any_moment run.ensures.stops run.ensures.limits run.ensures.unbroken run.ensures.read run.ensures.write run.ensures.disk
+    let run = c.replay_session-end in
+    replays g.D.Disk.tells g.D.Disk.meaning c.args.devices c.in-Ok.book run.new.book (g.C.Clock.tells c.args.clock.now) (effect g.S.Source.left g.S.Source.faults c.args.source.now run.new.source) (effect g.W.Sink.written g.W.Sink.faults c.args.sink.now run.new.sink)
+    run.result (subst P c.standard.ensures c.in-Ok.ensures.loaded) run.ensures.gives run.ensures.any_moment run.ensures.stops run.ensures.limits run.ensures.unbroken run.ensures.counts
     c.into_devices.result c.into_devices.ensures.devices c.into_devices.ensures.opened
 
 pub returns-in-Err-clause-ends : goal.returns-in-Err-clause-ends
 returns-in-Err-clause-ends g c =
-    replay_unopened g.D.Disk.tells g.D.Disk.meaning c.args.devices c.in-Err.devices (g.C.Clock.tells c.args.clock.now) (g.S.Source.left c.args.source.now) (g.W.Sink.written c.args.sink.now)
-    (g.S.Source.faults c.args.source.now) (g.S.Source.faults c.args.source.now) (g.W.Sink.faults c.args.sink.now) (g.W.Sink.faults c.args.sink.now)
-    c.standard.result c.standard.ensures c.in-Err.fault c.in-Err.ensures.back c.in-Err.ensures.fault c.in-Err.ensures.cause
+    replay_unopened
+    (scene g.D.Disk.tells g.D.Disk.meaning c.args.devices c.in-Err.devices (g.C.Clock.tells c.args.clock.now) (effect g.S.Source.left g.S.Source.faults c.args.source.now c.args.source.now) (effect g.W.Sink.written g.W.Sink.faults c.args.sink.now c.args.sink.now))
+    c.standard.result c.standard.ensures (refl, refl) (refl, refl) c.in-Err.fault c.in-Err.ensures.back c.in-Err.ensures.fault c.in-Err.ensures.cause

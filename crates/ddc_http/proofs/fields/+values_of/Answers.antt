@@ -1,7 +1,7 @@
 use Rattle.std.proofs.Common.{◌∷◌, List, ℕ, arith, sym, ap, ◌∙◌, subst, map, take, drop, length, ◌-◌}
 use Rattle.httparse.specs.Spans.{header_bytes}
 use Rattle.ddc_protocol.specs.Fields.{values_of, same_name}
-use Rattle.ddc_http.specs.Values.{AreValues}
+use Rattle.ddc_http.specs.inside.Values.{AreValues}
 use Rattle.ddc_http.proofs.Named.{values_of-named}
 use Rattle.ddc_http.proofs.fields.+values_of.Goals as goal
 

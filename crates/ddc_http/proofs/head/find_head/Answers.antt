@@ -2,16 +2,16 @@ use Rattle.std.proofs.Common.{◌≡◌, ℕ, ◌≤◌, List, take, drop, lengt
 use Rattle.std.proofs.lemmas.List.{length-take-le}
 use Rattle.ddc_http.specs.declared.head.Found.{Found}
 use Rattle.ddc_http.specs.declared.head.Found.TheVariants.{More, Never, Head}
-use Rattle.ddc_http.specs.Reader.{Finds, FindsIn}
+use Rattle.ddc_http.specs.inside.Parts.{FindsHead, FindsHeadIn}
 use Rattle.ddc_protocol.specs.Requests.{NeverHasHead}
 use Rattle.ddc_http.proofs.Heads.{head_at-widen, never-overflows, never-full}
 use Rattle.ddc_http.proofs.head.find_head.Goals as goal
 
-widen : (bytes : List ℕ) (n : ℕ) (found : Found) → n ≤ length bytes → n ≤ 16384 → (found ≡ More → ⊥) → FindsIn (take n bytes) found → Finds bytes found
+widen : (bytes : List ℕ) (n : ℕ) (found : Found) → n ≤ length bytes → n ≤ 16384 → (found ≡ More → ⊥) → FindsHeadIn (take n bytes) found → FindsHead bytes found
 widen bytes n More fits small other h = absurd (other (λ _. More))
 widen bytes n Never fits small other h = let P : List ℕ → Type 0 = NeverHasHead in subst P (take-append-drop n bytes) (never-overflows (take n bytes) (drop n bytes) h)
 widen bytes n (Head len asks) fits small other h =
-    let P : List ℕ → Type 0 = λ b. Finds b (Head len asks) in
+    let P : List ℕ → Type 0 = λ b. FindsHead b (Head len asks) in
     subst P (take-append-drop n bytes) (head_at-widen (take n bytes) (drop n bytes) len asks (omega (arith, length-take-le n bytes fits)) h)
 
 pub returns-else-window-lt-MOST_HEAD : goal.returns-else-window-lt-MOST_HEAD

@@ -1,10 +1,18 @@
-use Rattle.std.proofs.Common.{◌≡◌, ◌≤◌, ◌<◌, ◌+◌, ◌-◌, ◌++◌, ℕ, List, length, take, drop, sym, ap, ◌∙◌, subst, arith, refl, length-append, drop_of_length-le}
-use Rattle.std.proofs.lemmas.List.{length-drop, length-take-le, take-append-le}
+use Rattle.std.proofs.Common.{◌≡◌, ◌≤◌, ◌<◌, ◌+◌, ◌-◌, ◌++◌, ℕ, List, length, take, drop, sym, ap, ◌∙◌, subst, arith, refl, length-append, drop_of_length-le, append-nil, append_assoc, take-append-drop, [], inl, inr}
+use Rattle.std.proofs.lemmas.List.{length-drop, length-take-le, take-append-le, take_all}
 use Rattle.std.specs.Io.KnownBytes.{Consumes, prepend_known}
-use Rattle.ddc_protocol.specs.Requests.{IsCut}
+use Rattle.ddc_protocol.specs.Requests.{IsCut, HasNoRequestText}
 use Rattle.io_hash.specs.Intakes.{Taken}
 use Rattle.ddc_http.proofs.Taken.{lacks, no_item-short, cut-short, known-at-end, consumes-kept, consumes-bare, taken-first, taken-more}
+use Rattle.ddc_http.specs.inside.Parts.{BodyAt}
+use Rattle.ddc_http.proofs.Pieces.{consumes-nothing, consumes-both, takes-piece, takes-nothing}
 use Rattle.ddc_http.proofs.reader.take_body.Goals as goal
+
+-- what was held, with what was taken, is a head and less than its body
+short_yet : (held taken body : List ℕ) (len size : ℕ) → BodyAt held len size → held ++ taken ≡ take len held ++ body → length body < size → HasNoRequestText (held ++ taken)
+short_yet held taken body len size at is short =
+    let P : List ℕ → Type 0 = HasNoRequestText in
+    subst P (sym is) (no_item-short (take len held ++ body) size (lacks held body len size at short))
 
 pub pieces-init : goal.pieces-init
 pieces-init g c =
@@ -23,7 +31,13 @@ pieces-init g c =
       counted = omega arith;
       bare = λ more. c.drop_front.ensures ∙ drop_of_length-le held {i = len + first} (omega arith);
       ready = λ whole. (omega arith, refl);
-      later = omega arith;
+      took = (
+        [],
+        consumes-nothing (g.S.Source.left c.args.source.now),
+        λ more. append-nil held ∙ sym (ap (λ b. take len held ++ b) (fed ∙ take_all first (drop len held) (omega (arith, length-drop len held))) ∙ take-append-drop len held),
+      );
+      pieces = inl refl;
+      faults = refl;
     }
 
 pub returns-in-Err-clause-gives : goal.returns-in-Err-clause-gives
@@ -73,13 +87,25 @@ pieces-preserved g c =
     let after = g.S.Source.left c.take-in-pieces.new.self in
     let bare = i.bare (omega arith) in
     let P : List ℕ → Type 0 = λ b. Consumes before (prepend_known c.drop_front.new.held.items after) (take c.args.len held ++ b) in
+    let (taken, took, is) = i.took in
+    let small : n ≤ 65536 = omega (arith, c.take-in-pieces.auto.into, length-take-le c.min-most.result c.pieces.piece (omega arith)) in
     record {
       taken = subst P (sym fed) (taken-more before (g.S.Source.left c.pieces.source) after c.drop_front.new.held.items (take c.args.len held) c.pieces.intake.bytes piece bare i.taken c.in-Ok-take.ensures.bytes.0);
       limit = ap (λ p. p.limit) c.in-Ok-take-2.ensures.taken ∙ i.limit;
       counted = omega arith;
       bare = λ more. bare;
       ready = λ whole. let done = i.ready whole in absurd (omega arith);
-      later = omega arith;
+      took = (
+        taken ++ piece,
+        consumes-both (g.S.Source.left c.args.source.now) (g.S.Source.left c.pieces.source) after taken piece took c.in-Ok-take.ensures.bytes.0,
+        λ more. sym (append_assoc held taken piece) ∙ ap (λ l. l ++ piece) (is (omega arith)) ∙ append_assoc (take c.args.len held) c.pieces.intake.bytes piece
+            ∙ ap (λ b. take c.args.len held ++ b) (sym fed),
+      );
+      pieces = inr (
+          takes-piece (g.S.Source.left c.args.source.now) (g.S.Source.left c.pieces.source) after held taken piece took c.in-Ok-take.ensures.bytes.0 (let count = fits.1 in omega (arith, small))
+          (short_yet held taken c.pieces.intake.bytes c.args.len c.args.size c.requires.body (is (omega arith)) (omega arith))
+          );
+      faults = i.faults ∙ c.in-Ok-take.ensures.cause.same;
     }
 
 pub returns-clause-gives : goal.returns-clause-gives
@@ -88,3 +114,41 @@ returns-clause-gives g c =
     let held = c.args.held.now.items in
     let P : List ℕ → Type 0 = λ b. Consumes (prepend_known held (g.S.Source.left c.args.source.now)) (prepend_known c.drop_front.new.held.items (g.S.Source.left c.pieces.source)) (take c.args.len held ++ b) in
     (subst P (sym c.finish.ensures) i.taken, ap length c.finish.ensures ∙ omega arith)
+
+pub returns-in-Err-clause-pieces : goal.returns-in-Err-clause-pieces
+returns-in-Err-clause-pieces g c =
+    let i = c.pieces.invariant in
+    let held = c.args.held.now.items in
+    let (taken, took, is) = i.took in
+    inr (
+    takes-nothing (g.S.Source.left c.args.source.now) (g.S.Source.left c.pieces.source) (g.S.Source.left c.take-in-pieces.new.self) held taken took c.in-Err.ensures.bytes
+    (short_yet held taken c.pieces.intake.bytes c.args.len c.args.size c.requires.body (is (omega arith)) (omega arith))
+    )
+
+pub returns-in-Ok-eq0-clause-pieces : goal.returns-in-Ok-eq0-clause-pieces
+returns-in-Ok-eq0-clause-pieces g c =
+    let i = c.pieces.invariant in
+    let held = c.args.held.now.items in
+    let n = c.in-Ok-eq0.field-0 in
+    let piece = take n c.take-in-pieces.new.into in
+    let none : n ≡ 0 = c.in-Ok-eq0.field-0-test in
+    let empty : length piece ≡ 0 = ap (λ k. length (take k c.take-in-pieces.new.into)) none in
+    let (taken, took, is) = i.took in
+    inr (
+    takes-piece (g.S.Source.left c.args.source.now) (g.S.Source.left c.pieces.source) (g.S.Source.left c.take-in-pieces.new.self) held taken piece took c.in-Ok-eq0.ensures.bytes.0 (omega arith)
+    (short_yet held taken c.pieces.intake.bytes c.args.len c.args.size c.requires.body (is (omega arith)) (omega arith))
+    )
+
+pub returns-in-Err-NoMemory-take-clause-pieces : goal.returns-in-Err-NoMemory-take-clause-pieces
+returns-in-Err-NoMemory-take-clause-pieces g c =
+    let i = c.pieces.invariant in
+    let held = c.args.held.now.items in
+    let n = c.in-Ok-take.count in
+    let piece = take n c.take-in-pieces.new.into in
+    let fits = c.in-Ok-take.ensures.bound in
+    let small : n ≤ 65536 = omega (arith, c.take-in-pieces.auto.into, length-take-le c.min-most.result c.pieces.piece (omega arith)) in
+    let (taken, took, is) = i.took in
+    inr (
+    takes-piece (g.S.Source.left c.args.source.now) (g.S.Source.left c.pieces.source) (g.S.Source.left c.take-in-pieces.new.self) held taken piece took c.in-Ok-take.ensures.bytes.0
+    (let count = fits.1 in omega (arith, small)) (short_yet held taken c.pieces.intake.bytes c.args.len c.args.size c.requires.body (is (omega arith)) (omega arith))
+    )

@@ -1,18 +1,18 @@
 use Rattle.std.proofs.Common.{◌≡◌, ◌≤◌, ◌+◌, ℕ, List, length, Some, refl, subst}
-use Rattle.std.specs.Io.KnownBytes.{prepend_known}
-use Rattle.ddc_protocol.specs.declared.form.Form.{Form}
-use Rattle.ddc_protocol.specs.declared.form.Form.TheVariants.{PutBlob, GetBlob, PutRef, GetRef, Finalise}
+use Rattle.ddc_protocol.specs.declared.request_form.RequestForm.{RequestForm}
+use Rattle.ddc_protocol.specs.declared.request_form.RequestForm.TheVariants.{PutBlob, GetBlob, PutRef, GetRef, Finalise}
 use Rattle.ddc_protocol.specs.Requests.{body_length, fetches, reads, finalises}
 use Rattle.ddc_http.specs.declared.request.Ask.TheVariants as ask
-use Rattle.ddc_http.specs.Reader.{HasItem, HeadAt, AskedAs}
-use Rattle.ddc_http.proofs.Taken.{whole_held, body_asked, head_asked}
+use Rattle.ddc_http.specs.Reader.{HasRequestText, stream_ahead}
+use Rattle.ddc_http.specs.inside.Parts.{HeadAt, AskedAs}
+use Rattle.ddc_http.proofs.Taken.{whole_held, body_asked, head_asked, faults-asked}
 use Rattle.ddc_http.proofs.reader.take_request.Goals as goal
 
-head_of : (held : List ℕ) (len : ℕ) (form is : Form) → form ≡ is → HeadAt held len (Some form) → HeadAt held len (Some is)
-head_of held len form is e h = let P : Form → Type 0 = λ f. HeadAt held len (Some f) in subst P e h
+head_of : (held : List ℕ) (len : ℕ) (form is : RequestForm) → form ≡ is → HeadAt held len (Some form) → HeadAt held len (Some is)
+head_of held len form is e h = let P : RequestForm → Type 0 = λ f. HeadAt held len (Some f) in subst P e h
 
 -- a whole request that is held has its body there
-body_held : (held : List ℕ) (len : ℕ) (form is : Form) → form ≡ is → HeadAt held len (Some form) → HasItem held → len + body_length is ≤ length held
+body_held : (held : List ℕ) (len : ℕ) (form is : RequestForm) → form ≡ is → HeadAt held len (Some form) → HasRequestText held → len + body_length is ≤ length held
 body_held held len form is e h has = whole_held held len (body_length is) (record { form = is; head_at = head_of held len form is e h; states = refl }) has
 
 pub returns-in-Err-clause-ready : goal.returns-in-Err-clause-ready
@@ -24,14 +24,18 @@ returns-in-Ok-clause-ready g c = λ has. c.take_body.ensures.ready (body_held c.
 pub returns-in-Ok-clause-gives : goal.returns-in-Ok-clause-gives
 returns-in-Ok-clause-gives g c =
     let held = c.args.held.now.items in
-    let before = prepend_known held (g.S.Source.left c.args.source.now) in
-    let left = g.S.Source.left c.take_body.new.source in
-    let after = prepend_known c.take_body.new.held.items left in
+    let old = stream_ahead held (g.S.Source.left c.args.source.now) in
+    let new = stream_ahead c.take_body.new.held.items (g.S.Source.left c.take_body.new.source) in
     let body = c.in-Ok.body in
     let (taken, whole) = c.in-Ok.ensures.gives in
-    let P : ℕ → Type 0 = λ n. AskedAs (PutBlob c.in-PutBlob.space c.in-PutBlob.named n) body c.stored.result in
-    body_asked before after left held (PutBlob c.in-PutBlob.space c.in-PutBlob.named c.in-PutBlob.size) body c.args.len c.args.place.now c.place_after.result c.stored.result
-    (head_of held c.args.len c.args.form (PutBlob c.in-PutBlob.space c.in-PutBlob.named c.in-PutBlob.size) c.in-PutBlob.is c.requires.head) taken whole c.place_after.ensures (subst P whole c.stored.ensures)
+    let P : ℕ → Type 0 = λ n. AskedAs (PutBlob c.in-PutBlob.space c.in-PutBlob.named n) body c.blob_request.result in
+    body_asked old new (PutBlob c.in-PutBlob.space c.in-PutBlob.named c.in-PutBlob.size) body c.args.len c.args.place.now c.place_after.result c.blob_request.result
+    (head_of held c.args.len c.args.form (PutBlob c.in-PutBlob.space c.in-PutBlob.named c.in-PutBlob.size) c.in-PutBlob.is c.requires.head) taken whole c.place_after.ensures (subst P whole c.blob_request.ensures)
+
+pub returns-in-Ok-clause-faults : goal.returns-in-Ok-clause-faults
+returns-in-Ok-clause-faults g c =
+    faults-asked (g.S.Source.faults c.args.source.now) (g.S.Source.faults c.take_body.new.source) (PutBlob c.in-PutBlob.space c.in-PutBlob.named (length c.in-Ok.body)) c.in-Ok.body c.blob_request.result c.in-Ok.ensures.faults
+    c.blob_request.ensures
 
 pub returns-in-Err-take_body-clause-ready : goal.returns-in-Err-take_body-clause-ready
 returns-in-Err-take_body-clause-ready g c = λ has. c.take_body-in-PutRef.ensures.ready (body_held c.args.held.now.items c.args.len c.args.form (PutRef c.in-PutRef.name c.in-PutRef.size) c.in-PutRef.is c.requires.head has)
@@ -42,14 +46,18 @@ returns-in-Ok-take_body-clause-ready g c = λ has. c.take_body-in-PutRef.ensures
 pub returns-in-Ok-take_body-clause-gives : goal.returns-in-Ok-take_body-clause-gives
 returns-in-Ok-take_body-clause-gives g c =
     let held = c.args.held.now.items in
-    let before = prepend_known held (g.S.Source.left c.args.source.now) in
-    let left = g.S.Source.left c.take_body-in-PutRef.new.source in
-    let after = prepend_known c.take_body-in-PutRef.new.held.items left in
+    let old = stream_ahead held (g.S.Source.left c.args.source.now) in
+    let new = stream_ahead c.take_body-in-PutRef.new.held.items (g.S.Source.left c.take_body-in-PutRef.new.source) in
     let body = c.in-Ok-take_body.body in
     let (taken, whole) = c.in-Ok-take_body.ensures.gives in
-    let P : ℕ → Type 0 = λ n. AskedAs (PutRef c.in-PutRef.name n) body c.put.result in
-    body_asked before after left held (PutRef c.in-PutRef.name c.in-PutRef.size) body c.args.len c.args.place.now c.place_after-in-Ok-take_body.result c.put.result
-    (head_of held c.args.len c.args.form (PutRef c.in-PutRef.name c.in-PutRef.size) c.in-PutRef.is c.requires.head) taken whole c.place_after-in-Ok-take_body.ensures (subst P whole c.put.ensures)
+    let P : ℕ → Type 0 = λ n. AskedAs (PutRef c.in-PutRef.name n) body c.object_request.result in
+    body_asked old new (PutRef c.in-PutRef.name c.in-PutRef.size) body c.args.len c.args.place.now c.place_after-in-Ok-take_body.result c.object_request.result
+    (head_of held c.args.len c.args.form (PutRef c.in-PutRef.name c.in-PutRef.size) c.in-PutRef.is c.requires.head) taken whole c.place_after-in-Ok-take_body.ensures (subst P whole c.object_request.ensures)
+
+pub returns-in-Ok-take_body-clause-faults : goal.returns-in-Ok-take_body-clause-faults
+returns-in-Ok-take_body-clause-faults g c =
+    faults-asked (g.S.Source.faults c.args.source.now) (g.S.Source.faults c.take_body-in-PutRef.new.source) (PutRef c.in-PutRef.name (length c.in-Ok-take_body.body)) c.in-Ok-take_body.body c.object_request.result c.in-Ok-take_body.ensures.faults
+    c.object_request.ensures
 
 pub returns-in-GetBlob-clause-gives : goal.returns-in-GetBlob-clause-gives
 returns-in-GetBlob-clause-gives g c =

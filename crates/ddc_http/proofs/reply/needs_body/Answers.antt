@@ -1,6 +1,6 @@
 use Rattle.std.proofs.Common.{◌++◌, ◌==◌, codes, take, slice_index_or, sym, ap, ◌∙◌, append_assoc, arith}
 use Rattle.ddc_protocol.specs.Replies.{hash_list}
-use Rattle.ddc_http.specs.Heads.{hash_entry}
+use Rattle.ddc_http.specs.inside.Entries.{hash_entry}
 use Rattle.ddc_http.proofs.Lists.{hash_list-take}
 use Rattle.ddc_http.proofs.reply.needs_body.Goals as goal
 

@@ -1,11 +1,19 @@
-use Rattle.std.proofs.Common.{◌≡◌, ◌⊎◌, ◌∷◌, [], ◌++◌, List, ℕ, ◌∙◌, inl, inr}
+use Rattle.std.proofs.Common.{◌≡◌, ◌⊎◌, ◌<◌, ◌^◌, ◌∷◌, [], List, ℕ, refl, ◌∙◌, arith, inl, inr}
 use Rattle.ddc_disk.specs.Disk.{IsImage, EachImage, IsSure}
 use Rattle.ddc_disk.specs.Since.{then_runs, one_call}
 use Rattle.ddc_disk.specs.Told.{at_told}
-use Rattle.ddc_journal.specs.Journal.{header, NotMadeOrEmpty}
-use Rattle.ddc_journal.specs.inside.Closing.{IsUnmade}
-use Rattle.ddc_journal.proofs.Making.{sure_run, sure_after, gate_torn, gate_ready, header_size, if_told}
+use Rattle.ddc_journal.specs.Journal.{single_version, NotMadeOrEmpty}
+use Rattle.ddc_journal.specs.inside.Closing.{AreItems, IsRemade, IsUnmade}
+use Rattle.ddc_journal.proofs.Ranks.{rank_unmade, unmade_rank}
+use Rattle.ddc_journal.proofs.Making.{if_told, stands_sure}
 use Rattle.ddc_journal.proofs.create.make.Goals as goal
+
+none : (generation : ℕ) → 0 < generation → generation < 2 ^ 64 → AreItems generation [] (0 ∷ [])
+none generation pos fits = record { split = refl; numbered = (pos, fits); sized = tt }
+
+empty : (generation : ℕ) (old image : List ℕ) → IsUnmade old → IsRemade single_version generation [] old image → NotMadeOrEmpty generation image
+empty generation old image unmade (inl le) = inl (unmade_rank image (omega (arith, le, rank_unmade old unmade)))
+empty generation old image unmade (inr journal) = inr journal
 
 pub returns-in_err-sync-clause-any_moment : goal.returns-in_err-sync-clause-any_moment
 returns-in_err-sync-clause-any_moment g c pos fits = if_told (g.D.Disk.meaning c.args.disk.now).held _ (λ file held unmade.
@@ -14,77 +22,30 @@ returns-in_err-sync-clause-any_moment g c pos fits = if_told (g.D.Disk.meaning c
     let P : List ℕ → Type 0 = λ image. IsImage old.line image ⊎ NotMadeOrEmpty c.args.generation image in
     one_call old.line s.line P (g.met.D.Disk.rests c.args.disk.now) (λ image now. inl now) c.sync.ensures.time (λ image now. inl (c.sync.ensures.calm image now)))
 
-pub returns-in_err-close-clause-any_moment : goal.returns-in_err-close-clause-any_moment
-returns-in_err-close-clause-any_moment g c pos fits = if_told (g.D.Disk.meaning c.args.disk.now).held _ (λ file held unmade.
+pub returns-in_err-remake-clause-any_moment : goal.returns-in_err-remake-clause-any_moment
+returns-in_err-remake-clause-any_moment g c pos fits = if_told (g.D.Disk.meaning c.args.disk.now).held _ (λ file held unmade.
     let old = g.D.Disk.meaning c.args.disk.now in
     let s = g.D.Disk.meaning c.sync.new.self in
+    let new = g.D.Disk.meaning c.remake.new.disk in
     let P : List ℕ → Type 0 = λ image. IsImage old.line image ⊎ NotMadeOrEmpty c.args.generation image in
     let first = one_call old.line s.line P (g.met.D.Disk.rests c.args.disk.now) (λ image now. inl now) c.sync.ensures.time (λ image now. inl (c.sync.ensures.calm image now)) in
-    let closed_line = g.D.Disk.meaning c.close.new.disk in
     let sure_s : IsSure s file = record { held = c.sync.ensures.held ∙ held; only = at_told old.held (λ f. EachImage s.line (λ image. image ≡ f)) file held c.in_ok-sync.ensures.durable } in
-    then_runs old.line s.line closed_line.line P IsUnmade first (c.close.ensures.any_moment file sure_s unmade) (λ image is. inr (inl is)))
-
-pub returns-in_err-write_blank-clause-any_moment : goal.returns-in_err-write_blank-clause-any_moment
-returns-in_err-write_blank-clause-any_moment g c pos fits = if_told (g.D.Disk.meaning c.args.disk.now).held _ (λ file held unmade.
-    let old = g.D.Disk.meaning c.args.disk.now in
-    let s = g.D.Disk.meaning c.sync.new.self in
-    let P : List ℕ → Type 0 = λ image. IsImage old.line image ⊎ NotMadeOrEmpty c.args.generation image in
-    let first = one_call old.line s.line P (g.met.D.Disk.rests c.args.disk.now) (λ image now. inl now) c.sync.ensures.time (λ image now. inl (c.sync.ensures.calm image now)) in
-    let closed_line = g.D.Disk.meaning c.close.new.disk in
-    let sure_s : IsSure s file = record { held = c.sync.ensures.held ∙ held; only = at_told old.held (λ f. EachImage s.line (λ image. image ≡ f)) file held c.in_ok-sync.ensures.durable } in
-    let two = then_runs old.line s.line closed_line.line P IsUnmade first (c.close.ensures.any_moment file sure_s unmade) (λ image is. inr (inl is)) in
-    let b = g.D.Disk.meaning c.write_blank.new.disk in
-    let closed = c.in_ok-close.ensures.closed file sure_s in
-    then_runs old.line closed_line.line b.line P IsUnmade two (c.write_blank.ensures.any_moment closed) (λ image is. inr (inl is)))
-
-pub returns-in_err-write_sure-clause-any_moment : goal.returns-in_err-write_sure-clause-any_moment
-returns-in_err-write_sure-clause-any_moment g c pos fits = if_told (g.D.Disk.meaning c.args.disk.now).held _ (λ file held unmade.
-    let old = g.D.Disk.meaning c.args.disk.now in
-    let s = g.D.Disk.meaning c.sync.new.self in
-    let P : List ℕ → Type 0 = λ image. IsImage old.line image ⊎ NotMadeOrEmpty c.args.generation image in
-    let first = one_call old.line s.line P (g.met.D.Disk.rests c.args.disk.now) (λ image now. inl now) c.sync.ensures.time (λ image now. inl (c.sync.ensures.calm image now)) in
-    let closed_line = g.D.Disk.meaning c.close.new.disk in
-    let sure_s : IsSure s file = record { held = c.sync.ensures.held ∙ held; only = at_told old.held (λ f. EachImage s.line (λ image. image ≡ f)) file held c.in_ok-sync.ensures.durable } in
-    let two = then_runs old.line s.line closed_line.line P IsUnmade first (c.close.ensures.any_moment file sure_s unmade) (λ image is. inr (inl is)) in
-    let b = g.D.Disk.meaning c.write_blank.new.disk in
-    let closed = c.in_ok-close.ensures.closed file sure_s in
-    let three = then_runs old.line closed_line.line b.line P IsUnmade two (c.write_blank.ensures.any_moment closed) (λ image is. inr (inl is)) in
-    let new = g.D.Disk.meaning c.write_sure.new.disk in
-    let is_blank = c.in_ok-write_blank.ensures.blank closed in
-    let size = header_size c.args.generation in
-    let file_b = header c.args.generation ++ is_blank.gate ∷ 0 ∷ is_blank.rest in
-    let fourth = sure_run b new file_b 20 1 (NotMadeOrEmpty c.args.generation) is_blank.sure c.write_sure.ensures.any_moment (gate_torn b c.args.generation is_blank (pos, fits) size) in
-    then_runs old.line b.line new.line P (NotMadeOrEmpty c.args.generation) three fourth (λ image is. inr is))
+    then_runs old.line s.line new.line P _ first (c.remake.ensures.any_moment file [] sure_s (none c.args.generation pos fits)) (λ image is. inr (empty c.args.generation file image unmade is)))
 
 pub returns-clause-any_moment : goal.returns-clause-any_moment
 returns-clause-any_moment g c pos fits = if_told (g.D.Disk.meaning c.args.disk.now).held _ (λ file held unmade.
     let old = g.D.Disk.meaning c.args.disk.now in
     let s = g.D.Disk.meaning c.sync.new.self in
+    let new = g.D.Disk.meaning c.remake.new.disk in
     let P : List ℕ → Type 0 = λ image. IsImage old.line image ⊎ NotMadeOrEmpty c.args.generation image in
     let first = one_call old.line s.line P (g.met.D.Disk.rests c.args.disk.now) (λ image now. inl now) c.sync.ensures.time (λ image now. inl (c.sync.ensures.calm image now)) in
-    let closed_line = g.D.Disk.meaning c.close.new.disk in
     let sure_s : IsSure s file = record { held = c.sync.ensures.held ∙ held; only = at_told old.held (λ f. EachImage s.line (λ image. image ≡ f)) file held c.in_ok-sync.ensures.durable } in
-    let two = then_runs old.line s.line closed_line.line P IsUnmade first (c.close.ensures.any_moment file sure_s unmade) (λ image is. inr (inl is)) in
-    let b = g.D.Disk.meaning c.write_blank.new.disk in
-    let closed = c.in_ok-close.ensures.closed file sure_s in
-    let three = then_runs old.line closed_line.line b.line P IsUnmade two (c.write_blank.ensures.any_moment closed) (λ image is. inr (inl is)) in
-    let new = g.D.Disk.meaning c.write_sure.new.disk in
-    let is_blank = c.in_ok-write_blank.ensures.blank closed in
-    let size = header_size c.args.generation in
-    let file_b = header c.args.generation ++ is_blank.gate ∷ 0 ∷ is_blank.rest in
-    let fourth = sure_run b new file_b 20 1 (NotMadeOrEmpty c.args.generation) is_blank.sure c.write_sure.ensures.any_moment (gate_torn b c.args.generation is_blank (pos, fits) size) in
-    then_runs old.line b.line new.line P (NotMadeOrEmpty c.args.generation) three fourth (λ image is. inr is))
+    then_runs old.line s.line new.line P _ first (c.remake.ensures.any_moment file [] sure_s (none c.args.generation pos fits)) (λ image is. inr (empty c.args.generation file image unmade is)))
 
 pub returns-clause-ready : goal.returns-clause-ready
 returns-clause-ready g c pos fits = if_told (g.D.Disk.meaning c.args.disk.now).held _ (λ file held.
     let old = g.D.Disk.meaning c.args.disk.now in
     let s = g.D.Disk.meaning c.sync.new.self in
-    let closed_line = g.D.Disk.meaning c.close.new.disk in
+    let new = g.D.Disk.meaning c.remake.new.disk in
     let sure_s : IsSure s file = record { held = c.sync.ensures.held ∙ held; only = at_told old.held (λ f. EachImage s.line (λ image. image ≡ f)) file held c.in_ok-sync.ensures.durable } in
-    let b = g.D.Disk.meaning c.write_blank.new.disk in
-    let closed = c.in_ok-close.ensures.closed file sure_s in
-    let new = g.D.Disk.meaning c.write_sure.new.disk in
-    let is_blank = c.in_ok-write_blank.ensures.blank closed in
-    let size = header_size c.args.generation in
-    let file_b = header c.args.generation ++ is_blank.gate ∷ 0 ∷ is_blank.rest in
-    gate_ready b c.args.generation is_blank (pos, fits) size new (sure_after b new file_b (1 ∷ []) 20 is_blank.sure c.in_ok-write_sure.ensures.durable))
+    stands_sure new single_version c.args.generation [] 21 (c.in_ok-remake.ensures.made file [] sure_s (none c.args.generation pos fits)) refl)

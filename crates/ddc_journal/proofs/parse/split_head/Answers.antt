@@ -3,7 +3,7 @@ use Rattle.ddc_journal.proofs.Reading.{head_is}
 use Rattle.ddc_journal.proofs.parse.split_head.Goals as goal
 
 pub returns-clause-known : goal.returns-clause-known
-returns-clause-known c known zero =
+returns-clause-known c known =
     let b = c.args.bytes.now in
     let m = c.in-Some.magic.now in
     let v = c.in-Some-split_first_chunk.version.now in
@@ -15,5 +15,5 @@ returns-clause-known c known zero =
     (second.0 ∙ ap (λ (l : List ℕ). take 4 l) first.1)
     (third.0 ∙ ap (λ (l : List ℕ). take 8 l) (second.1 ∙ ap (λ (l : List ℕ). drop 4 l) first.1))
     known
-    c.short_number.ensures.back zero
+    c.short_number.ensures.back
     c.long_number.ensures.back

@@ -1,4 +1,4 @@
-use Rattle.std.proofs.Common.{◌≡◌, ℕ, List, ◌+◌, ◌*◌, ◌<◌, take, drop, slice_index, slice_index_or, [], arith, refl, sym, ◌∙◌}
+use Rattle.std.proofs.Common.{◌≡◌, ℕ, List, ◌+◌, ◌*◌, take, drop, slice_index, slice_index_or, [], arith, refl, sym, ◌∙◌}
 use Rattle.tree_hash.specs.TreeHash.{block_words, word_at}
 use Rattle.blake3_lanes.proofs.LaneLemmas.{word_within}
 use Rattle.blake3_lanes.proofs.eight.chunks.columns.Goals as goal

@@ -1,4 +1,4 @@
-use Rattle.std.proofs.Common.{ℕ, ◌<◌, arith, ap, ◌∙◌}
+use Rattle.std.proofs.Common.{ℕ, arith, ap, ◌∙◌}
 use Rattle.tree_hash.specs.TreeHash.{word_at}
 use Rattle.blake3_lanes.proofs.EightLemmas.{below_eight}
 use Rattle.blake3_lanes.proofs.eight.chunks.half.Goals as goal

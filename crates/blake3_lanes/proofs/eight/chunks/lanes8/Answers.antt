@@ -9,7 +9,7 @@ each_block-init c j h = c.start_values-h.ensures j h
 
 pub each_block-preserved : goal.each_block-preserved
 each_block-preserved c j h =
-    rw (c.compress-h.ensures j (c.args.first + j) h (c.low_words-low.ensures j h) (c.high_words-high.ensures j h), c.columns.ensures j h, c.start_flag.ensures, c.each_block.invariant j h)
+    rw (c.compress-h.ensures j (c.args.first + j) h (c.low_words-low.ensures j h) (c.high_words-high.ensures j h), c.columns.ensures j h, c.start_flag.ensures.value, c.each_block.invariant j h)
     (chunk_more c.args.input.now (1024 * j) (c.args.first + j) c.each_block.k (omega arith))
 
 pub returns : goal.returns

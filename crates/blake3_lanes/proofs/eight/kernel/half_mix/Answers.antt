@@ -1,7 +1,7 @@
 use Rattle.std.proofs.Common.{ℕ, List, refl, slice_index, slice_set, bit_xor, w32}
 use Rattle.std.specs.Int.{rotate_right}
 use Rattle.tree_hash.specs.TreeHash.{add32, half_mix}
-use Rattle.blake3_lanes.specs.Lanes.{lane}
+use Rattle.blake3_lanes.specs.inside.Lanes.{lane}
 use Rattle.blake3_lanes.proofs.LaneLemmas.{lane_get, lane_set}
 use Rattle.blake3_lanes.proofs.eight.kernel.half_mix.Goals as goal
 

@@ -1,6 +1,6 @@
 use Rattle.std.proofs.Common.{List, ℕ, slice_index, arith, ◌∙◌}
 use Rattle.std.proofs.lemmas.List.{length-map}
-use Rattle.blake3_lanes.specs.Lanes.{lane}
+use Rattle.blake3_lanes.specs.inside.Lanes.{lane}
 use Rattle.blake3_lanes.proofs.LaneLemmas.{lane_get}
 use Rattle.blake3_lanes.proofs.Halves.{diagonals_together}
 use Rattle.blake3_lanes.proofs.eight.kernel.mix_diagonals.Goals as goal

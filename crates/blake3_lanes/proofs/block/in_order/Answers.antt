@@ -1,0 +1,5 @@
+use Rattle.blake3_lanes.proofs.Turned.{ordered}
+use Rattle.blake3_lanes.proofs.block.in_order.Goals as goal
+
+pub returns : goal.returns
+returns c = ordered c.args.a c.fits-a.0 c.args.b c.fits-b.0 c.args.c c.fits-c.0 c.args.d c.fits-d.0

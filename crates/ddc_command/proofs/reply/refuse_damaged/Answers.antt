@@ -1,9 +1,0 @@
-use Rattle.std.proofs.Common.{List, ℕ, true, subst, ◌∙◌}
-use Rattle.ddc_protocol.specs.Replies.{json_reply}
-use Rattle.ddc_command.specs.Writes.{WritesAs}
-use Rattle.ddc_command.proofs.reply.refuse_damaged.Goals as goal
-
-pub returns-in-Ok : goal.returns-in-Ok
-returns-in-Ok g c =
-    let P : List ℕ → Type 0 = λ body. WritesAs (g.W.Sink.written c.args.sink.now) (g.W.Sink.written c.write_json.new.sink) (g.W.Sink.faults c.args.sink.now) (g.W.Sink.faults c.write_json.new.sink) (json_reply 500 body true) c.write_json.result in
-    record { gives = subst P (c.as_slice.ensures ∙ c.in-Ok.ensures) c.write_json.ensures.gives }

@@ -1,6 +1,0 @@
-use Rattle.std.proofs.Common.{sym}
-use Rattle.ddc_http.proofs.Targets.{no_hash}
-use Rattle.ddc_http.proofs.form.hash_of.Goals as goal
-
-pub returns-in-Err : goal.returns-in-Err
-returns-in-Err c = sym (no_hash c.args.text.now c.in-Err.ensures.cases.0)

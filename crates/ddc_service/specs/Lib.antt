@@ -1,0 +1,4 @@
+pub mod Effects
+pub mod Replies
+pub mod Session
+pub mod inside

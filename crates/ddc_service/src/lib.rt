@@ -1,0 +1,9 @@
+//! The replies to requests, and the sessions that write them.
+#![tactic(auto)]
+
+mod reply;
+mod session;
+#[cfg(test)]
+mod tests;
+
+pub use session::{SessionEnd, replay_session};

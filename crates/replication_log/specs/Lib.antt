@@ -1,0 +1,4 @@
+pub mod Logs
+pub mod LogPages
+pub mod Readers
+pub mod Examples
