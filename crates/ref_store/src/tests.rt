@@ -68,9 +68,14 @@ fn a_table_is_a_map_from_names_to_slots(rt: HostRuntime) -> Result<(), Fail> {
     Ok(())
 }
 
-// The first reference, or the one after another.
-fn next_of(table: &RefTable, after: Option<RefName>) -> Option<(RefName, Slot)> {
-    table.next(after.as_ref())
+// Whether the first reference, or the one after another, is this one.
+fn follows(table: &RefTable, after: Option<RefName>, name: RefName, slot: Slot) -> Option<RefName> {
+    let (next, found) = table.next(after.as_ref())?;
+    if next == name && found == slot {
+        Some(next)
+    } else {
+        None
+    }
 }
 
 #[test]
@@ -88,13 +93,10 @@ fn the_references_come_one_after_another(rt: HostRuntime) -> Result<(), Fail> {
         ("ue50", "a", 9, true, 90),
     ] {
         let name = name_of(space, bucket, key)?;
-        assert_eq!(rt;
-            next_of(&table, after),
-            Some((name, slot_of(key, finalised, seen)))
-        );
-        after = Some(name);
+        after = follows(&table, after, name, slot_of(key, finalised, seen));
+        assert!(rt; after.is_some());
     }
-    assert_eq!(rt; next_of(&table, after), None);
+    assert!(rt; table.next(after.as_ref()).is_none());
     Ok(())
 }
 
