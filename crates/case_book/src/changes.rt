@@ -45,11 +45,7 @@ fn checked(alloc: Global, digits: &str) -> Result<Option<Checked>, NoMemory> {
     Ok(Checked::new(alloc, intake.finish()).ok())
 }
 
-pub fn space(
-    alloc: Global,
-    book: &mut Book<MemDisk>,
-    rest: &str,
-) -> Result<String, NoMemory> {
+pub fn space(alloc: Global, book: &mut Book<MemDisk>, rest: &str) -> Result<String, NoMemory> {
     let (space, times) = cut(rest);
     let Ok(space) = Namespace::parse(space) else {
         return text(alloc, "no namespace");

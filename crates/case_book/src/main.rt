@@ -57,12 +57,7 @@ fn answer(alloc: Global, bench: &mut Bench, line: &str) -> Result<String, NoMemo
 }
 
 // The answer of an open store.
-fn of_store(
-    alloc: Global,
-    bench: &mut Bench,
-    call: &str,
-    rest: &str,
-) -> Result<String, NoMemory> {
+fn of_store(alloc: Global, bench: &mut Bench, call: &str, rest: &str) -> Result<String, NoMemory> {
     let hour = bench.hour;
     let Some(book) = &mut bench.book else {
         return text(alloc, "no store");
