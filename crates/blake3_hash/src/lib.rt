@@ -8,6 +8,3 @@ mod spine;
 pub use hasher::Hasher;
 pub use spine::{Spine, hash};
 pub use tree_hash::{chunk_value, compress, parent_value};
-
-#[cfg(test)]
-mod tests;

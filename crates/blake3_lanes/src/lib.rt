@@ -15,6 +15,3 @@ mod width;
 pub use chunks::chunks8;
 pub use parents::parents8;
 pub use wide::WideHasher;
-
-#[cfg(test)]
-mod tests;

@@ -9,8 +9,6 @@ mod bytes;
 mod held;
 mod span;
 mod store;
-#[cfg(test)]
-mod tests;
 
 pub use bytes::{read_piece, write_blob};
 pub use store::BlobStore;

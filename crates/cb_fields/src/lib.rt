@@ -12,8 +12,6 @@ mod laws;
 mod links;
 mod needs;
 mod shape;
-#[cfg(test)]
-mod tests;
 mod varuint;
 
 pub use check::{CbFault, check_object, links_of};

@@ -11,8 +11,6 @@ mod commit;
 mod history;
 mod open;
 mod reads;
-#[cfg(test)]
-mod tests;
 mod tied;
 
 pub use book::Book;

@@ -4,8 +4,6 @@
 mod command;
 mod end;
 mod notes;
-#[cfg(test)]
-mod tests;
 mod top;
 mod words;
 

@@ -18,8 +18,6 @@ mod log;
 mod mem_disk;
 mod memory;
 mod tear;
-#[cfg(test)]
-mod tests;
 
 pub use devices::{Devices, HeldDevices};
 pub use file::FileDisk;

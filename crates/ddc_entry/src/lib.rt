@@ -7,8 +7,6 @@
 mod laws;
 mod parts;
 mod reading;
-#[cfg(test)]
-mod tests;
 mod writing;
 
 pub use laws::{one_entry, one_front, written_then_read};

@@ -8,8 +8,6 @@ mod reader;
 mod reply;
 mod request;
 mod stream;
-#[cfg(test)]
-mod tests;
 
 pub use reply::{
     ErrorCode, Head, Kind, WriteFault, damaged_body, error_body, fault_body, full_body,

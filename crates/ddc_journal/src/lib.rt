@@ -14,8 +14,6 @@ mod laws;
 mod load;
 pub mod pair;
 mod parse;
-#[cfg(test)]
-mod tests;
 
 pub use fault::JournalFault;
 pub use framed::Framed;

@@ -15,8 +15,6 @@ use ddc_names::Failed;
 mod clocks;
 mod memory;
 mod standard;
-#[cfg(test)]
-mod tests;
 
 pub use clocks::{FixedClock, SystemClock};
 pub use memory::{MemSink, MemSource};

@@ -10,8 +10,6 @@ mod fault;
 mod laws;
 mod name_box;
 mod rows;
-#[cfg(test)]
-mod tests;
 
 pub use entry::{Entry, Step, Stored};
 pub use fault::{StoreFault, What};

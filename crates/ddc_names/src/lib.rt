@@ -8,8 +8,6 @@ mod name;
 mod orders;
 mod reference;
 mod rows;
-#[cfg(test)]
-mod tests;
 
 pub use hash::IoHash;
 pub use name::{BadName, Bucket, Namespace};

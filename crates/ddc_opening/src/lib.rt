@@ -13,8 +13,6 @@ mod load;
 mod replay;
 mod sync;
 mod tables;
-#[cfg(test)]
-mod tests;
 
 pub use create::create_store;
 pub use entries::{added_name, fresh_of};

@@ -3,7 +3,5 @@
 
 mod reply;
 mod session;
-#[cfg(test)]
-mod tests;
 
 pub use session::{SessionEnd, replay_session};

@@ -3,15 +3,11 @@
 #![tactic(auto)]
 
 mod blob_map;
-#[cfg(test)]
-mod blob_map_tests;
 mod blobs;
 mod checked;
 mod index;
 mod packed;
 mod spaces;
-#[cfg(test)]
-mod tests;
 
 pub use blob_map::BlobMap;
 pub use checked::Checked;

@@ -7,6 +7,3 @@ mod whole;
 
 pub use intake::{Intake, IntakeFault};
 pub use whole::{Whole, io_hash_of};
-
-#[cfg(test)]
-mod tests;

@@ -9,8 +9,6 @@
 mod closure_walk;
 mod missing;
 mod sound;
-#[cfg(test)]
-mod tests;
 
 pub use missing::{needs, needs_with};
 pub use sound::first_unsound;

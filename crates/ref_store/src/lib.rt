@@ -6,8 +6,6 @@ mod place;
 mod ranges;
 mod slot;
 mod table;
-#[cfg(test)]
-mod tests;
 
 pub use slot::{RefRow, Slot, SlotPage};
 pub use table::RefTable;

@@ -6,8 +6,6 @@ mod event;
 mod laws;
 mod log;
 mod ring;
-#[cfg(test)]
-mod tests;
 
 pub use event::{Event, EventOp, LogFault};
 pub use laws::{a_log_keeps_the_newest, a_reader_misses_nothing};

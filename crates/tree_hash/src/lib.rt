@@ -10,6 +10,3 @@ mod tree;
 pub use block::{chunk_value, compress, flagged_chunk, flagged_parent, parent_value};
 pub use laws::{left_and_right, one_chunk};
 pub use tree::{bytes_of, plain_hash};
-
-#[cfg(test)]
-mod tests;

@@ -1,6 +1,0 @@
-use Rattle.ddc_disk.specs.Images.{devices_line}
-use Rattle.ddc_disk.specs.MemDisks.{told_by}
-use Rattle.ddc_book.proofs.tests.served.Given as goal
-
-abbrev pub ghosts-run : goal.ghosts-run
-ghosts-run g a = record { start = devices_line told_by a.devices }

@@ -1,5 +1,0 @@
-use Rattle.ddc_service.proofs.Opened.{is_unbroken}
-use Rattle.ddc_service.proofs.tests.ended.Goals as goal
-
-pub replay_session-requires : goal.replay_session-requires
-replay_session-requires c = is_unbroken c.standard.result c.in-Ok.book.steps c.in-Ok.ensures.created.steps

@@ -1,0 +1,116 @@
+//! The effect of a few entries. Entries by the hundred, legal ones and others, are compared from outside, through the program.
+
+use cb_fields::{Link, LinkKind};
+use ddc_model::{BlobRow, Entry, Extent, Limits, SpaceRow, Stored};
+use ddc_names::{IoHash, Namespace, NoMemory, Rows};
+use ddc_state::{Checked, Index};
+use io_hash::{Intake, Whole};
+use std::alloc::Global;
+use std::test::Fail;
+
+fn link_of(kind: LinkKind) -> Link {
+    Link {
+        kind,
+        hash: IoHash([2; 20]),
+    }
+}
+
+// An upload of a blob that has a link to an object and one to a binary.
+fn upload_to(alloc: Global, space: Namespace) -> Result<Entry, NoMemory> {
+    let links = [link_of(LinkKind::Object), link_of(LinkKind::Binary)];
+    let blob = Stored {
+        hash: IoHash([1; 20]),
+        len: 4097,
+        start: 10,
+        links: Rows::of_vec(Vec::from_slice(alloc, &links)?),
+    };
+    Ok(Entry::Upload {
+        space,
+        blob,
+        hour: 100,
+    })
+}
+
+// Makes an entry, where it fits.
+fn makes(alloc: Global, index: &mut Index, entry: &Entry) -> bool {
+    index.fits(entry) && index.apply(alloc, entry).is_ok()
+}
+
+// An index with one namespace, and the upload that was made in it; `None` for want of memory.
+fn index_of(alloc: Global, space: Namespace) -> Option<(Index, Entry)> {
+    let mut index = Index::new(alloc, Limits::standard());
+    let upload = upload_to(alloc, space).ok()?;
+    let refused = !makes(alloc, &mut index, &upload);
+    let times = Entry::Space {
+        space,
+        ttl: 24,
+        pin: 4,
+    };
+    let made = makes(alloc, &mut index, &times) && makes(alloc, &mut index, &upload);
+    if refused && made {
+        Some((index, upload))
+    } else {
+        None
+    }
+}
+
+#[test]
+fn entries_that_fit_are_made_and_others_refused(rt: HostRuntime) -> Result<(), Fail> {
+    let space = Namespace::parse("game")?;
+    let Some((index, upload)) = index_of(rt.alloc(), space) else {
+        panic!(rt; "no index");
+    };
+    assert!(rt; !index.fits(&upload));
+    assert_eq!(rt; index.space(&space), Some(SpaceRow { ttl: 24, pin: 4 }));
+    assert_eq!(rt; (index.hour(), index.space_count()), (100, 1));
+    assert_eq!(rt; (index.blob_count(), index.link_count()), (1, 2));
+    assert_eq!(rt; (index.refs().len(), index.limits().blobs), (0, 2_097_152));
+    let row = BlobRow {
+        len: 4097,
+        at: 100,
+        extent: Extent {
+            start: 10,
+            units: 2,
+        },
+    };
+    assert_eq!(rt; index.blob(&space, &IoHash([1; 20])), Some(row));
+    Ok(())
+}
+
+#[test]
+fn reads_of_links_are_counted(rt: HostRuntime) -> Result<(), Fail> {
+    let space = Namespace::parse("game")?;
+    let Some((mut index, _)) = index_of(rt.alloc(), space) else {
+        panic!(rt; "no index");
+    };
+    let read = index.count_read();
+    let links = index.links(&space, &IoHash([1; 20]), read);
+    assert_eq!(rt; links.len(), 2);
+    assert!(rt; links[0] == link_of(LinkKind::Object));
+    assert!(rt; links[1] == link_of(LinkKind::Binary));
+    let read = index.count_read();
+    assert_eq!(rt; index.links(&space, &IoHash([2; 20]), read).len(), 0);
+    assert_eq!(rt; index.reads(), 2);
+    Ok(())
+}
+
+fn whole_of(alloc: Global, bytes: &[u8]) -> Result<Whole, Fail> {
+    let mut intake = Intake::new(alloc, bytes.len() as u64);
+    intake.take(bytes)?;
+    Ok(intake.finish())
+}
+
+#[test]
+fn a_check_tells_an_object_and_its_links(rt: HostRuntime) -> Result<(), Fail> {
+    let bytes = b"\x02\x17\x8f\x01aabcdefghijklmnopqrst";
+    let object = Checked::new(rt.alloc(), whole_of(rt.alloc(), bytes)?)?;
+    assert!(rt; object.is_object());
+    assert_eq!(rt; object.links().len(), 1);
+    assert!(rt; object.links()[0].kind == LinkKind::Binary);
+    assert_eq!(rt; object.links()[0].hash, IoHash(*b"abcdefghijklmnopqrst"));
+    let letter = Checked::new(rt.alloc(), whole_of(rt.alloc(), b"a")?)?;
+    assert!(rt; !letter.is_object());
+    assert_eq!(rt; letter.whole().bytes(), b"a".as_slice());
+    assert!(rt; letter.whole().hash().text() == *b"17762fddd969a453925d65717ac3eea21320b66b");
+    Ok(())
+}
