@@ -269,9 +269,12 @@ module _ {T I : Type 0} (list : T → List I) where
     λ y e. ap (λ z. (idle (list z), [])) (ap (taken x) e),
   )
 
-  pub serves_as : (slots by n : ℕ) (m : Me (Option T) (Known I)) (front : List I) (x : T) → m ≡ (inside n front, (0, Some x) ∷ []) → IsPrefix front (list x)
+  -- m is a seat in its turn that has put the value x into its slot
+  pub serves_given : (slots by n : ℕ) (m a : Me (Option T) (Known I)) (front : List I) (x : T) → m ≡ (a.0, (0, Some x) ∷ rest a.1) → a ≡ (inside n front, (0, None) ∷ []) → IsPrefix front (list x)
       → Allows Rule slots by m 1 (λ k. (k + 1) % 2 ^ 64) (Serves list (step slots 1 1 0 none) m)
-  serves_as slots by n m front x is grown = subst (λ m'. Allows Rule slots by m' 1 (λ k. (k + 1) % 2 ^ 64) (Serves list (step slots 1 1 0 none) m')) (sym is) (serves slots by n front x grown)
+  serves_given slots by n m a front x is was grown =
+      let given : m ≡ (inside n front, (0, Some x) ∷ []) = is ∙ (λ i. ((was i).0, (0, Some x) ∷ rest (was i).1)) in
+      subst (λ m'. Allows Rule slots by m' 1 (λ k. (k + 1) % 2 ^ 64) (Serves list (step slots 1 1 0 none) m')) (sym given) (serves slots by n front x grown)
 
   -- ---- two seats of one, and one of two
 
@@ -314,6 +317,9 @@ module _ {T I : Type 0} (list : T → List I) where
         (refl, all.1, all.2),
       )
 
-  pub compares_as : (slots by : ℕ) (m : Me (Option T) (Known I)) (front other : List I) → m ≡ (beside (idle front) (idle other), [])
+  -- m is a seat to which another one was joined
+  pub compares_joined : (slots by : ℕ) (m a b : Me (Option T) (Known I)) (front other : List I) → m ≡ (beside a.0 b.0, a.1) → a ≡ (idle front, []) → b ≡ (idle other, [])
       → Allows Rule slots by m 0 (λ k. k) (Compares (step slots 0 0 0 none) m)
-  compares_as slots by m front other is = subst (λ m'. Allows Rule slots by m' 0 (λ k. k) (Compares (step slots 0 0 0 none) m')) (sym is) (compares slots by front other [])
+  compares_joined slots by m a b front other is first second =
+      let joined : m ≡ (beside (idle front) (idle other), []) = is ∙ (λ i. (beside (first i).0 (second i).0, (first i).1)) in
+      subst (λ m'. Allows Rule slots by m' 0 (λ k. k) (Compares (step slots 0 0 0 none) m')) (sym joined) (compares slots by front other [])

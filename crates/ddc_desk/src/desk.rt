@@ -5,8 +5,9 @@ ghost use mathlib.Core.List.{IsPrefix};
 ghost use Rattle.ddc_desk.specs.Fronts.{longer};
 ghost use Rattle.ddc_desk.specs.inside.Steps.{idle, waiting, inside};
 
+use crate::bells::Bells;
 use crate::grows::Grows;
-use crate::rule::{Both, Compare, Copy, Draw, Known, Look, Rule, Serve};
+use crate::rule::{Compare, Draw, Known, Look, Rule, SameFront, Serve, SideBySide};
 use atomic_table::{Refused, Seat as Place, Table};
 use ddc_names::NoMemory;
 use std::alloc::{AllocFailed, Global};
@@ -20,6 +21,7 @@ type Board<T> = Table<Option<T>, Known<<T as Grows>::Item>, Snapshot<T>, Rule<T>
 #[derive(Drop)]
 pub struct Desk<T: Grows> {
     board: Board<T>,
+    bells: Bells,
 }
 
 impl<T: Grows> Model for Desk<T> {
@@ -103,7 +105,13 @@ impl<T: Grows> Desk<T> {
             };
         }
         match Table::new(alloc, &[0, 0], slots, &about) {
-            Ok((board, place)) => Ok((Desk { board }, Seat { place })),
+            Ok((board, place)) => Ok((
+                Desk {
+                    board,
+                    bells: Bells::new(),
+                },
+                Seat { place },
+            )),
             Err(Refused { mut slots }) => match slots.pop() {
                 Some(Some(value)) => {
                     slots.destroy_empty();
@@ -121,7 +129,7 @@ impl<T: Grows> Desk<T> {
         ensures second { IfOk result (λ second. second ≡ seat.old) }
         ensures same { seat.new ≡ seat.old }
     {
-        let place = self.board.shared.split_seat::<Copy>(&mut seat.place);
+        let place = self.board.shared.split_seat::<SameFront>(&mut seat.place);
         Ok(Seat { place })
     }
 
@@ -135,7 +143,9 @@ impl<T: Grows> Desk<T> {
     {
         let Seat { mut place } = seat;
         let Seat { place: second } = other;
-        self.board.shared.join_seat::<Both>(&mut place, second);
+        self.board
+            .shared
+            .join_seat::<SideBySide>(&mut place, second);
         self.board.shared.load::<Compare>(&mut place, 0);
         Seat { place }
     }
@@ -167,16 +177,16 @@ impl<T: Grows> Desk<T> {
         ensures front { result.front ≡ T.list turn.value }
     {
         let Turn { value, entry } = turn;
-        let Entry {
-            ticket: _,
-            mut place,
-        } = entry;
+        let Entry { ticket, mut place } = entry;
         match self.board.shared.exchange(&mut place, 0, Some(value)) {
             Some(_) => unreachable!(),
             None => (),
         }
         self.board.shared.fetch_add::<Serve<T>>(&mut place, 1, 1);
-        self.board.shared.wake_all(1);
+        let next = ticket + 1;
+        if next < self.board.shared.peek(0) {
+            self.bells.ring(next);
+        }
         Seat { place }
     }
 
@@ -213,11 +223,11 @@ impl<T: Grows> Desk<T> {
         ensures turn { (x : T) × (place.new.me ≡ (inside ticket (T.list x), (0, Some x) ∷ [])) × IsPrefix place.old.me.0.front (T.list x) }
     {
         for _ in rt.forever() {
-            let serving = self.board.shared.load::<Look<T>>(place, 1);
-            if serving == ticket {
+            let heard = self.bells.heard(ticket);
+            if self.board.shared.load::<Look<T>>(place, 1) == ticket {
                 return;
             }
-            self.board.shared.park(rt, 1, (serving % (1 << 32)) as u32);
+            self.bells.sleep(rt, ticket, heard);
         }
         unreachable!()
     }

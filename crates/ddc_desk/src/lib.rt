@@ -7,6 +7,7 @@
 //! none does.
 #![tactic(auto)]
 
+mod bells;
 mod desk;
 mod grows;
 mod rule;

@@ -5,7 +5,7 @@ use std::collections::LinkedList;
 use std::marker::PhantomData;
 use std::snapshot::Snapshot;
 
-/// What a seat is at.
+/// Where a seat stands.
 pub enum Role {
     Idle,
     /// With the ticket that it drew.
@@ -71,9 +71,9 @@ impl<T, I> Play<Option<T>, Known<I>> for Compare {
     ghost then = { Compares };
 }
 
-pub struct Copy;
+pub struct SameFront;
 
-impl<I> Split<Known<I>> for Copy {
+impl<I> Split<Known<I>> for SameFront {
     ghost use Rattle.ddc_desk.specs.inside.Steps.{idle};
 
     ghost left = { λ known. known };
@@ -81,9 +81,9 @@ impl<I> Split<Known<I>> for Copy {
     ghost right = { λ known. idle known.front };
 }
 
-pub struct Both;
+pub struct SideBySide;
 
-impl<I> Join<Known<I>> for Both {
+impl<I> Join<Known<I>> for SideBySide {
     ghost use Rattle.std.specs.Prelude.{[]};
     ghost use Rattle.ddc_desk.specs.inside.Steps.{idle, beside};
 

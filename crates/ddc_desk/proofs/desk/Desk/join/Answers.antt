@@ -1,6 +1,5 @@
 use Rattle.std.proofs.Common.{rules, sym, ap, ◌∙◌}
-use Rattle.ddc_desk.specs.inside.Steps.{beside}
-use Rattle.ddc_desk.proofs.Keeping.{joins, compares_as}
+use Rattle.ddc_desk.proofs.Keeping.{joins, compares_joined}
 use Rattle.ddc_desk.proofs.desk.Desk.join.Goals as goal
 
 pub join_seat-requires : goal.join_seat-requires
@@ -11,6 +10,4 @@ join_seat-requires g c =
 pub load-requires : goal.load-requires
 load-requires g c =
     let e = c.join_seat.ensures in
-    let a = c.seat.invariant in
-    let b = c.other.invariant in
-    (e.0 ∙ ap (λ v. v.desk) c.seat.view_is ∙ c.requires.own.0 ∙ sym c.self.view_is, search rules, compares_as g.T.Grows.list _ _ _ _ _ (e.2 ∙ (λ i. (beside (a i).0 (b i).0, (a i).1))))
+    (e.0 ∙ ap (λ v. v.desk) c.seat.view_is ∙ c.requires.own.0 ∙ sym c.self.view_is, search rules, compares_joined g.T.Grows.list _ _ _ _ _ _ _ e.2 c.seat.invariant c.other.invariant)

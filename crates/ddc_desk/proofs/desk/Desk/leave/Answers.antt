@@ -1,7 +1,6 @@
-use Rattle.std.proofs.Common.{rules, ◌∷◌, Some, sym, ap, ◌∙◌, subst}
+use Rattle.std.proofs.Common.{rules, sym, ap, ◌∙◌, subst}
 use mathlib.Core.List.{IsPrefix}
-use Rattle.atomic_table.specs.Table.{rest}
-use Rattle.ddc_desk.proofs.Keeping.{serves_as}
+use Rattle.ddc_desk.proofs.Keeping.{serves_given}
 use Rattle.ddc_desk.proofs.desk.Desk.leave.Goals as goal
 
 pub fetch_add-requires : goal.fetch_add-requires
@@ -9,4 +8,4 @@ fetch_add-requires g c =
     let e = c.exchange.ensures in
     let own = ap (λ v. v.desk) c.entry.view_is ∙ c.requires.own ∙ sym c.self.view_is in
     let grown = subst (λ l. IsPrefix l (g.T.Grows.list c.args.turn.value)) (sym (ap (λ v. v.front) c.entry.view_is)) c.requires.grown in
-    (e.0 ∙ own, search rules, serves_as g.T.Grows.list _ _ _ _ _ c.args.turn.value (e.3 ∙ ap (λ m. (m.0, (0, Some c.args.turn.value) ∷ rest m.1)) c.entry.invariant.0) grown)
+    (e.0 ∙ own, search rules, serves_given g.T.Grows.list _ _ _ _ _ _ c.args.turn.value e.3 c.entry.invariant.0 grown)
