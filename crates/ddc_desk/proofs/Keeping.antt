@@ -1,5 +1,5 @@
 -- Each step of a desk keeps its rule.
-use Rattle.std.proofs.Common.{◌≡◌, ◌≢◌, ℕ, zero, suc, ◌+◌, ◌%◌, ◌^◌, ◌<◌, eqb, List, [], ◌∷◌, set, Bool, true, false, true≢false, if◌then◌else◌, Option, Some, None, refl, sym, ap, ◌∙◌, subst, ⊎_elim, arith, eq-eqb, ne_eqb}
+use Rattle.std.proofs.Common.{◌≡◌, ◌≢◌, ℕ, zero, suc, ◌+◌, ◌-◌, ◌%◌, ◌^◌, ◌<◌, eqb, List, [], ◌∷◌, set, Bool, true, false, true≢false, if◌then◌else◌, Option, Some, None, refl, sym, ap, ◌∙◌, subst, ⊎_elim, arith, eq-eqb, ne_eqb}
 use Rattle.std.specs.Prelude.{slice_index}
 use mathlib.Core.Option.{some, none, some-injective, some-ne-none}
 use mathlib.Core.List.{IsPrefix}
@@ -13,7 +13,7 @@ use Rattle.ddc_desk.specs.declared.rule.Known.{Known}
 use Rattle.ddc_desk.specs.declared.rule.Role.{Role}
 use Rattle.ddc_desk.specs.declared.rule.Role.TheVariants.{Idle, Waits, In}
 use Rattle.ddc_desk.specs.Fronts.{longer}
-use Rattle.ddc_desk.specs.inside.Steps.{idle, waiting, inside, beside, HasRole, IsSo, IsKept, Draws, Looks, Serves, Compares}
+use Rattle.ddc_desk.specs.inside.Steps.{idle, waiting, inside, beside, Standing, HasRole, IsSo, IsKept, Draws, Looks, Serves, Compares}
 use Rattle.ddc_desk.proofs.Prefixes.{prefix_nil, longer_begins}
 
 off : {X : Type 0} → true ≡ false → X
@@ -38,29 +38,35 @@ put_here owner n j = ap (λ b. if b then j else owner n) (eq-eqb n n refl)
 put_else : (owner : ℕ → ℕ) (n j m : ℕ) → m ≢ n → put owner n j m ≡ owner m
 put_else owner n j m ne = ap (λ b. if b then j else owner m) (ne_eqb m n ne)
 
--- ---- the seats that don't step
+-- ---- the desk after each step, and the seats that don't step
 
 module _ {I : Type 0} where
-  -- when the seat `by` draws the ticket t
-  others_drawn : (t s : ℕ) (owner : ℕ → ℕ) (busy : Bool) (published : List I) (by j : ℕ) (front : List I) (r : Role) → HasRole t s owner busy published j front r
-      → HasRole (t + 1) s (put owner t by) busy published j front r
-  others_drawn t s owner busy published by j front Idle k = tt
-  others_drawn t s owner busy published by j front (Waits n) k = (k.0, let p = k.1 in omega arith, put_else owner t by n (λ e. let p = k.1 in absurd (omega arith)) ∙ k.2, k.3)
-  others_drawn t s owner busy published by j front (In n) k = (k.0, let p = k.1 in omega arith, put_else owner t by n (λ e. let p = k.1 in absurd (omega arith)) ∙ k.2, k.3, k.4)
+  -- once the seat `by` has drawn the next ticket
+  abbrev with_ticket : Standing I → ℕ → Standing I
+  with_ticket d by = record { ticket = d.ticket + 1; serving = d.serving; owner = put d.owner d.ticket by; busy = d.busy; published = d.published }
 
-  -- when the owner of the ticket s goes in
-  others_entered : (t s : ℕ) (owner : ℕ → ℕ) (published : List I) (j : ℕ) (front : List I) (r : Role) → owner s ≢ j → HasRole t s owner false published j front r
-      → HasRole t s owner true published j front r
-  others_entered t s owner published j front Idle apart k = tt
-  others_entered t s owner published j front (Waits n) apart k = (k.0, k.1, k.2, λ e. absurd (apart (ap owner (sym e) ∙ k.2)))
-  others_entered t s owner published j front (In n) apart k = off (sym k.4)
+  -- once a turn has begun
+  abbrev in_turn : Standing I → Standing I
+  in_turn d = record { ticket = d.ticket; serving = d.serving; owner = d.owner; busy = true; published = d.published }
 
-  -- when the owner of the ticket s leaves
-  others_left : (t s : ℕ) (owner : ℕ → ℕ) (published new : List I) (j : ℕ) (front : List I) (r : Role) → owner s ≢ j → HasRole t s owner true published j front r
-      → HasRole t (s + 1) owner false new j front r
-  others_left t s owner published new j front Idle apart k = tt
-  others_left t s owner published new j front (Waits n) apart k = (let le = k.0 in let ne : n ≢ s = (λ e. off (k.3 e)) in omega arith, k.1, k.2, λ e. refl)
-  others_left t s owner published new j front (In n) apart k = absurd (apart (ap owner (sym k.0) ∙ k.2))
+  -- once it has ended with this list
+  abbrev after_turn : Standing I → List I → Standing I
+  after_turn d new = record { ticket = d.ticket; serving = d.serving + 1; owner = d.owner; busy = false; published = new }
+
+  others_drawn : (d : Standing I) (by j : ℕ) (front : List I) (r : Role) → HasRole d j front r → HasRole (with_ticket d by) j front r
+  others_drawn d by j front Idle k = tt
+  others_drawn d by j front (Waits n) k = (k.0, let p = k.1 in omega arith, put_else d.owner d.ticket by n (λ e. let p = k.1 in absurd (omega arith)) ∙ k.2, k.3)
+  others_drawn d by j front (In n) k = (k.0, let p = k.1 in omega arith, put_else d.owner d.ticket by n (λ e. let p = k.1 in absurd (omega arith)) ∙ k.2, k.3, k.4)
+
+  others_entered : (d : Standing I) (j : ℕ) (front : List I) (r : Role) → d.busy ≡ false → d.owner d.serving ≢ j → HasRole d j front r → HasRole (in_turn d) j front r
+  others_entered d j front Idle free apart k = tt
+  others_entered d j front (Waits n) free apart k = (k.0, k.1, k.2, λ e. absurd (apart (ap d.owner (sym e) ∙ k.2)))
+  others_entered d j front (In n) free apart k = off (sym k.4 ∙ free)
+
+  others_left : (d : Standing I) (new : List I) (j : ℕ) (front : List I) (r : Role) → d.busy ≡ true → d.owner d.serving ≢ j → HasRole d j front r → HasRole (after_turn d new) j front r
+  others_left d new j front Idle busy apart k = tt
+  others_left d new j front (Waits n) busy apart k = (let le = k.0 in let ne : n ≢ d.serving = (λ e. off (sym busy ∙ k.3 e)) in omega arith, k.1, k.2, λ e. refl)
+  others_left d new j front (In n) busy apart k = absurd (apart (ap d.owner (sym k.0) ∙ k.2))
 
 -- ---- a list of one slot that was taken
 
@@ -82,20 +88,16 @@ module _ {T I : Type 0} (list : T → List I) where
   abbrev Rule : State (Option T) (Known I) → Type 0
   Rule = IsKept list
 
-  word_0 : (s : State (Option T) (Known I)) (h : Rule s) → slice_index s.words 0 ≡ h.ticket
+  word_0 : (s : State (Option T) (Known I)) (h : Rule s) → slice_index s.words 0 ≡ h.desk.ticket
   word_0 s h = ap (λ (ws : List ℕ). slice_index ws 0) h.words_are
 
-  word_1 : (s : State (Option T) (Known I)) (h : Rule s) → slice_index s.words 1 ≡ h.serving
+  word_1 : (s : State (Option T) (Known I)) (h : Rule s) → slice_index s.words 1 ≡ h.desk.serving
   word_1 s h = ap (λ (ws : List ℕ). slice_index ws 1) h.words_are
 
   -- the rule holds of a new desk
   pub begins : (x : T) → Rule (opening (0 ∷ 0 ∷ []) (Some x ∷ []) (idle (list x)))
   begins x = record {
-    ticket = 0;
-    serving = 0;
-    owner = λ n. 0;
-    busy = false;
-    published = list x;
+    desk = new;
     words_are = refl;
     ordered = omega arith;
     small = omega arith;
@@ -105,57 +107,52 @@ module _ {T I : Type 0} (list : T → List I) where
     each = one;
   }
     where
-      one : (j : ℕ) (v : Known I) → get_elem? (idle (list x) ∷ []) j ≡ some v → IsSo 0 0 (λ n. 0) false (list x) j v
-      one zero v e = subst (IsSo 0 0 (λ n. 0) false (list x) 0) (some-injective _ _ e) (prefix_refl (list x), prefix_nil (list x), tt)
+      new : Standing I
+      new = record { ticket = 0; serving = 0; owner = λ n. 0; busy = false; published = list x }
+
+      one : (j : ℕ) (v : Known I) → get_elem? (idle (list x) ∷ []) j ≡ some v → IsSo new j v
+      one zero v e = subst (IsSo new 0) (some-injective _ _ e) (prefix_refl (list x), prefix_nil (list x), tt)
       one (suc j) v e = absurd (some-ne-none v (sym e))
 
   -- a seat has a new view, and the table stays as it is
-  changes : (s : State (Option T) (Known I)) (h : Rule s) (words : List ℕ) (by : ℕ) (w : Known I) → words ≡ s.words → IsSo h.ticket h.serving h.owner h.busy h.published by w
+  changes : (s : State (Option T) (Known I)) (h : Rule s) (words : List ℕ) (by : ℕ) (w : Known I) → words ≡ s.words → IsSo h.desk by w
       → Rule record { words = words; homes = s.homes; views = set s.views by w }
   changes s h words by w same mine = record {
-    ticket = h.ticket;
-    serving = h.serving;
-    owner = h.owner;
-    busy = h.busy;
-    published = h.published;
+    desk = h.desk;
     words_are = same ∙ h.words_are;
     ordered = h.ordered;
     small = h.small;
     drawn = h.drawn;
     at_home = h.at_home;
     away = h.away;
-    each = each_set (IsSo h.ticket h.serving h.owner h.busy h.published) s.views by w (λ j u apart e. h.each j u e) mine;
+    each = each_set (IsSo h.desk) s.views by w (λ j u apart e. h.each j u e) mine;
   }
 
   -- the next ticket is drawn
   draw_hit : (s : State (Option T) (Known I)) (h : Rule s) (by : ℕ) (v : Known I) (c : List (ℕ × Option T)) (n : ℕ) → get_elem? s.views by ≡ some v
-      → h.ticket ≡ n → n < 18446744073709551615 → Rule (stepped s 0 (n + 1) by c (waiting n v.front) keeps)
+      → h.desk.ticket ≡ n → n < 2 ^ 64 - 1 → Rule (stepped s 0 (n + 1) by c (waiting n v.front) keeps)
   draw_hit s h by v c n at is fits = record {
-    ticket = h.ticket + 1;
-    serving = h.serving;
-    owner = put h.owner h.ticket by;
-    busy = h.busy;
-    published = h.published;
-    words_are = ap (λ (ws : List ℕ). set ws 0 (n + 1)) h.words_are ∙ ap (λ (k : ℕ). (k + 1) ∷ h.serving ∷ []) (sym is);
+    desk = with_ticket h.desk by;
+    words_are = ap (λ (ws : List ℕ). set ws 0 (n + 1)) h.words_are ∙ ap (λ (k : ℕ). (k + 1) ∷ h.desk.serving ∷ []) (sym is);
     ordered = let o = h.ordered in omega arith;
     small = omega arith;
     drawn = λ e. let b = h.drawn e in omega arith;
     at_home = h.at_home;
     away = h.away;
-    each = each_set (IsSo (h.ticket + 1) h.serving (put h.owner h.ticket by) h.busy h.published) s.views by (waiting n v.front)
-        (λ j u apart e. let k = h.each j u e in (k.0, k.1, others_drawn h.ticket h.serving h.owner h.busy h.published by j u.front u.role k.2)) (
+    each = each_set (IsSo (with_ticket h.desk by)) s.views by (waiting n v.front)
+        (λ j u apart e. let k = h.each j u e in (k.0, k.1, others_drawn h.desk by j u.front u.role k.2)) (
           (h.each by v at).0,
-          prefix_nil h.published,
-          subst (λ m. HasRole (h.ticket + 1) h.serving (put h.owner h.ticket by) h.busy h.published by v.front (Waits m)) is
-              (h.ordered, omega arith, put_here h.owner h.ticket by, λ e. idle_now h.busy e h.drawn),
+          prefix_nil h.desk.published,
+          subst (λ m. HasRole (with_ticket h.desk by) by v.front (Waits m)) is
+              (h.ordered, omega arith, put_here h.desk.owner h.desk.ticket by, λ e. free_now h.desk.busy e h.drawn),
         );
   }
     where
-      idle_now : (b : Bool) → h.ticket ≡ h.serving → (b ≡ true → h.serving < h.ticket) → b ≡ false
-      idle_now false e drawn = refl
-      idle_now true e drawn = let l = drawn refl in absurd (omega arith)
+      free_now : (b : Bool) → h.desk.ticket ≡ h.desk.serving → (b ≡ true → h.desk.serving < h.desk.ticket) → b ≡ false
+      free_now false e drawn = refl
+      free_now true e drawn = let l = drawn refl in absurd (omega arith)
 
-  draws : (slots by n : ℕ) (v : Known I) → v ≡ idle v.front → n < 18446744073709551615
+  draws : (slots by n : ℕ) (v : Known I) → v ≡ idle v.front → n < 2 ^ 64 - 1
       → Allows Rule slots by (v, []) 0 (λ k. either (eqb k n) (n + 1) k) (Draws (step slots 0 n (n + 1) none) (v, []))
   draws slots by n v rests small s h len at bound =
       let k = slice_index s.words 0 in
@@ -163,37 +160,33 @@ module _ {T I : Type 0} (list : T → List I) where
       (λ is. (waiting n v.front, keeps, tt, draw_hit s h by v [] n at (sym (word_0 s h) ∙ is) small, ((λ e. ap (λ m. (waiting m v.front, [])) (sym is)), (λ ne. absurd (ne is)))))
       (λ ne. (v, keeps, tt, changes s h (set s.words 0 k) by v (ap (λ (ws : List ℕ). set ws 0 (slice_index ws 0)) h.words_are ∙ sym h.words_are) (h.each by v at), ((λ e. absurd (ne e)), (λ e. refl))))
 
-  pub draws_as : (slots by n : ℕ) (m : Me (Option T) (Known I)) (front : List I) → m ≡ (idle front, []) → n < 18446744073709551615
+  pub draws_as : (slots by n : ℕ) (m : Me (Option T) (Known I)) (front : List I) → m ≡ (idle front, []) → n < 2 ^ 64 - 1
       → Allows Rule slots by m 0 (λ k. either (eqb k n) (n + 1) k) (Draws (step slots 0 n (n + 1) none) m)
   draws_as slots by n m front is small = subst (λ m'. Allows Rule slots by m' 0 (λ k. either (eqb k n) (n + 1) k) (Draws (step slots 0 n (n + 1) none) m')) (sym is) (draws slots by n (idle front) refl small)
 
   -- it is the seat's turn, and it takes the slot
   look_hit : (s : State (Option T) (Known I)) (h : Rule s) (by n : ℕ) (v : Known I) (words : List ℕ) → get_elem? s.views by ≡ some v → v.role ≡ Waits n
-      → words ≡ s.words → h.serving ≡ n → (x : T) × (s.homes ≡ some (Some x) ∷ []) × Rule record { words = words; homes = set s.homes 0 none; views = set s.views by (inside n (list x)) } × IsPrefix v.front (list x)
+      → words ≡ s.words → h.desk.serving ≡ n → (x : T) × (s.homes ≡ some (Some x) ∷ []) × Rule record { words = words; homes = set s.homes 0 none; views = set s.views by (inside n (list x)) } × IsPrefix v.front (list x)
   look_hit s h by n v words at is same here =
       let mine = h.each by v at in
-      let k = subst (HasRole h.ticket h.serving h.owner h.busy h.published by v.front) is mine.2 in
-      let idle_now = k.3 (sym here) in
-      let home = h.at_home idle_now in
-      let others : (j : ℕ) (u : Known I) → j ≢ by → get_elem? s.views j ≡ some u → IsSo h.ticket h.serving h.owner true h.published j u =
+      let k = subst (HasRole h.desk by v.front) is mine.2 in
+      let free = k.3 (sym here) in
+      let home = h.at_home free in
+      let others : (j : ℕ) (u : Known I) → j ≢ by → get_elem? s.views j ≡ some u → IsSo (in_turn h.desk) j u =
       (λ j u apart e. let f = h.each j u e in
-      (f.0, f.1, others_entered h.ticket h.serving h.owner h.published j u.front u.role (λ o. apart (sym o ∙ ap h.owner here ∙ k.2)) (subst (λ b. HasRole h.ticket h.serving h.owner b h.published j u.front u.role) idle_now f.2))) in (
+      (f.0, f.1, others_entered h.desk j u.front u.role free (λ o. apart (sym o ∙ ap h.desk.owner here ∙ k.2)) f.2)) in (
         home.0,
         home.1,
         record {
-          ticket = h.ticket;
-          serving = h.serving;
-          owner = h.owner;
-          busy = true;
-          published = h.published;
+          desk = in_turn h.desk;
           words_are = same ∙ h.words_are;
           ordered = h.ordered;
           small = h.small;
-          drawn = λ e. subst (λ m. m < h.ticket) (sym here) k.1;
+          drawn = λ e. subst (λ m. m < h.desk.ticket) (sym here) k.1;
           at_home = λ e. off e;
           away = λ e. ap (λ hs. set hs 0 none) home.1;
-          each = each_set (IsSo h.ticket h.serving h.owner true h.published) s.views by (inside n (list home.0)) others
-              (subst (λ l. IsPrefix l h.published) (sym home.2) (prefix_refl h.published), prefix_nil h.published, (sym here, k.1, k.2, home.2, refl));
+          each = each_set (IsSo (in_turn h.desk)) s.views by (inside n (list home.0)) others
+              (subst (λ l. IsPrefix l h.desk.published) (sym home.2) (prefix_refl h.desk.published), prefix_nil h.desk.published, (sym here, k.1, k.2, home.2, refl));
         },
         subst (IsPrefix v.front) (sym home.2) mine.0,
       )
@@ -228,35 +221,30 @@ module _ {T I : Type 0} (list : T → List I) where
 
   -- the seat gives the value back, and the next ticket is served
   gives_back : (s : State (Option T) (Known I)) (h : Rule s) (by n : ℕ) (front : List I) (x : T) → get_elem? s.views by ≡ some (inside n front) → IsPrefix front (list x)
-      → Rule record { words = set s.words 1 ((h.serving + 1) % 2 ^ 64); homes = set s.homes 0 (some (Some x)); views = set s.views by (idle (list x)) }
+      → Rule record { words = set s.words 1 ((h.desk.serving + 1) % 2 ^ 64); homes = set s.homes 0 (some (Some x)); views = set s.views by (idle (list x)) }
   gives_back s h by n front x at grown =
       let mine = h.each by (inside n front) at in
       let k = mine.2 in
-      let was : front ≡ h.published = k.3 in
-      let more : IsPrefix h.published (list x) = subst (λ l. IsPrefix l (list x)) was grown in
-      let mine_is : h.owner h.serving ≡ by = ap h.owner (sym k.0) ∙ k.2 in
-      let less : h.serving < h.ticket = h.drawn k.4 in
+      let more : IsPrefix h.desk.published (list x) = subst (λ l. IsPrefix l (list x)) k.3 grown in
+      let mine_is : h.desk.owner h.desk.serving ≡ by = ap h.desk.owner (sym k.0) ∙ k.2 in
+      let less : h.desk.serving < h.desk.ticket = h.drawn k.4 in
       let small = h.small in
-      let room : (h.serving + 1) % 2 ^ 64 ≡ h.serving + 1 = omega arith in
-      let others : (j : ℕ) (u : Known I) → j ≢ by → get_elem? s.views j ≡ some u → IsSo h.ticket (h.serving + 1) h.owner false (list x) j u =
+      let room : (h.desk.serving + 1) % 2 ^ 64 ≡ h.desk.serving + 1 = omega arith in
+      let others : (j : ℕ) (u : Known I) → j ≢ by → get_elem? s.views j ≡ some u → IsSo (after_turn h.desk (list x)) j u =
       (λ j u apart e. let f = h.each j u e in (
-        prefix_trans u.front h.published (list x) f.0 more,
-        prefix_trans u.other h.published (list x) f.1 more,
-        others_left h.ticket h.serving h.owner h.published (list x) j u.front u.role (λ o. apart (sym o ∙ mine_is)) (subst (λ b. HasRole h.ticket h.serving h.owner b h.published j u.front u.role) k.4 f.2),
+        prefix_trans u.front h.desk.published (list x) f.0 more,
+        prefix_trans u.other h.desk.published (list x) f.1 more,
+        others_left h.desk (list x) j u.front u.role k.4 (λ o. apart (sym o ∙ mine_is)) f.2,
       )) in
       record {
-        ticket = h.ticket;
-        serving = h.serving + 1;
-        owner = h.owner;
-        busy = false;
-        published = list x;
-        words_are = ap (λ (ws : List ℕ). set ws 1 ((h.serving + 1) % 2 ^ 64)) h.words_are ∙ ap (λ (m : ℕ). h.ticket ∷ m ∷ []) room;
+        desk = after_turn h.desk (list x);
+        words_are = ap (λ (ws : List ℕ). set ws 1 ((h.desk.serving + 1) % 2 ^ 64)) h.words_are ∙ ap (λ (m : ℕ). h.desk.ticket ∷ m ∷ []) room;
         ordered = omega arith;
         small = h.small;
         drawn = λ e. off (sym e);
         at_home = λ e. (x, ap (λ hs. set hs 0 (some (Some x))) (h.away k.4), refl);
         away = λ e. off (sym e);
-        each = each_set (IsSo h.ticket (h.serving + 1) h.owner false (list x)) s.views by (idle (list x)) others (prefix_refl (list x), prefix_nil (list x), tt);
+        each = each_set (IsSo (after_turn h.desk (list x))) s.views by (idle (list x)) others (prefix_refl (list x), prefix_nil (list x), tt);
       }
 
   serves : (slots by n : ℕ) (front : List I) (x : T) → IsPrefix front (list x)
@@ -280,11 +268,7 @@ module _ {T I : Type 0} (list : T → List I) where
 
   pub splits : (by : ℕ) (v : Known I) → Splits Rule by v v (idle v.front)
   splits by v s h at = record {
-    ticket = h.ticket;
-    serving = h.serving;
-    owner = h.owner;
-    busy = h.busy;
-    published = h.published;
+    desk = h.desk;
     words_are = h.words_are;
     ordered = h.ordered;
     small = h.small;
@@ -293,7 +277,7 @@ module _ {T I : Type 0} (list : T → List I) where
     away = h.away;
     each = λ j u e. ⊎_elim
         (λ was. h.each j u (subst (λ l. get_elem? l j ≡ some u) (set_again s.views by v at) was))
-        (λ (same : idle v.front ≡ u). subst (IsSo h.ticket h.serving h.owner h.busy h.published j) same ((h.each by v at).0, prefix_nil h.published, tt))
+        (λ (same : idle v.front ≡ u). subst (IsSo h.desk j) same ((h.each by v at).0, prefix_nil h.desk.published, tt))
         (at_snoc (set s.views by v) (idle v.front) u j e);
   }
 
@@ -303,17 +287,17 @@ module _ {T I : Type 0} (list : T → List I) where
       let mine = h.each by v at in
       let theirs = ⊎_elim (λ (t : (other ≡ by) × (beside v w ≡ w)). absurd (apart t.0)) (λ (t : (other ≢ by) × (get_elem? s.views other ≡ some w)). h.each other w t.1) (at_set s.views by other (beside v w) w there) in
       let first = changes s h s.words by (beside v w) refl (mine.0, theirs.0, mine.2) in
-      changes record { words = s.words; homes = s.homes; views = set s.views by (beside v w) } first s.words other (idle []) refl (prefix_nil h.published, prefix_nil h.published, tt)
+      changes record { words = s.words; homes = s.homes; views = set s.views by (beside v w) } first s.words other (idle []) refl (prefix_nil h.desk.published, prefix_nil h.desk.published, tt)
 
   compares : (slots by : ℕ) (front other : List I) (c : List (ℕ × Option T))
       → Allows Rule slots by (beside (idle front) (idle other), c) 0 (λ k. k) (Compares (step slots 0 0 0 none) (beside (idle front) (idle other), c))
   compares slots by front other c s h len at bound =
       let mine = h.each by (beside (idle front) (idle other)) at in
-      let all = longer_begins front other h.published mine.0 mine.1 in (
+      let all = longer_begins front other h.desk.published mine.0 mine.1 in (
         idle (longer front other),
         keeps,
         tt,
-        changes s h (set s.words 0 (slice_index s.words 0)) by (idle (longer front other)) (ap (λ (ws : List ℕ). set ws 0 (slice_index ws 0)) h.words_are ∙ sym h.words_are) (all.0, prefix_nil h.published, tt),
+        changes s h (set s.words 0 (slice_index s.words 0)) by (idle (longer front other)) (ap (λ (ws : List ℕ). set ws 0 (slice_index ws 0)) h.words_are ∙ sym h.words_are) (all.0, prefix_nil h.desk.published, tt),
         (refl, all.1, all.2),
       )
 

@@ -7,8 +7,8 @@ use std::sync::atomic::{AtomicU64, Ordering};
 // As many as threads that are likely to wait at one desk.
 const BELLS: u64 = 32;
 
-/// A row of bells. Each ticket has one, and shares it with those that are a multiple of 32 before and after it. So who
-/// leaves wakes the next one and lets the others sleep.
+/// A row of bells. A ticket has the bell of its number modulo 32, so that who leaves wakes the next one and lets the
+/// others sleep. Bells give no right to anything: who wakes looks at the desk again.
 #[derive(Drop)]
 pub struct Bells {
     rings: [AtomicU64; BELLS as usize],

@@ -1,4 +1,4 @@
-//! The desk and its seats.
+//! The desk, its seats and its turns.
 
 ghost use Rattle.std.specs.Prelude.{◌≡◌, ◌<◌, ◌-◌, ◌^◌, [], ◌∷◌, Some, None, IfOk, IfErr, IsOk};
 ghost use mathlib.Core.List.{IsPrefix};
@@ -8,7 +8,7 @@ ghost use Rattle.ddc_desk.specs.inside.Steps.{idle, waiting, inside};
 use crate::bells::Bells;
 use crate::grows::Grows;
 use crate::rule::{Compare, Draw, Known, Look, Rule, SameFront, Serve, SideBySide};
-use atomic_table::{Refused, Seat as Place, Table};
+use atomic_table::{Refused, Seat as Token, Table};
 use ddc_names::NoMemory;
 use std::alloc::{AllocFailed, Global};
 use std::marker::Model;
@@ -17,7 +17,7 @@ use std::sync::Wait;
 
 type Board<T> = Table<Option<T>, Known<<T as Grows>::Item>, Snapshot<T>, Rule<T>, Global>;
 
-/// A value that threads use one at a time.
+/// A value that threads use one at a time, in the order in which they came. Contracts see which desk it is.
 #[derive(Drop)]
 pub struct Desk<T: Grows> {
     board: Board<T>,
@@ -37,11 +37,11 @@ impl<T: Grows> Model for Desk<T> {
     ghost invariant = { λ desk. (desk.board.shared.table_id.words ≡ 2) × (desk.board.shared.table_id.slots ≡ 1) };
 }
 
-/// A seat at a desk. It has no bytes. Contracts see which desk it is of, and the front of the value's list that it has
-/// seen.
+/// What a thread has seen of the value. It has no bytes. Contracts see which desk it is of, and the front of the value's
+/// list that was seen.
 #[derive(Drop)]
 pub struct Seat<T: Grows> {
-    place: Place<Option<T>, Known<<T as Grows>::Item>>,
+    token: Token<Option<T>, Known<<T as Grows>::Item>>,
 }
 
 impl<T: Grows> Model for Seat<T> {
@@ -53,25 +53,25 @@ impl<T: Grows> Model for Seat<T> {
 
     ghost coded = { coded_seated T.Item.code };
 
-    ghost view = { λ seat. record { desk = seat.place.table_id; front = seat.place.me.0.front } };
+    ghost view = { λ seat. record { desk = seat.token.table_id; front = seat.token.me.0.front } };
 
-    ghost invariant = { λ seat. seat.place.me ≡ (idle seat.place.me.0.front, []) };
+    ghost invariant = { λ seat. seat.token.me ≡ (idle seat.token.me.0.front, []) };
 }
 
 /// The value, for as long as nobody else has it. It is left or closed, and can't be dropped.
 pub struct Turn<T: Grows> {
     pub(crate) value: T,
-    pub(crate) entry: Entry<T>,
+    pub(crate) begun: Begun<T>,
 }
 
 /// How a turn began: its desk, its ticket, and the value's list then.
 #[derive(Drop)]
-pub struct Entry<T: Grows> {
+pub struct Begun<T: Grows> {
     ticket: u64,
-    place: Place<Option<T>, Known<<T as Grows>::Item>>,
+    token: Token<Option<T>, Known<<T as Grows>::Item>>,
 }
 
-impl<T: Grows> Model for Entry<T> {
+impl<T: Grows> Model for Begun<T> {
     ghost use Rattle.std.specs.Prelude.{◌≡◌, ◌<◌, ◌-◌, ◌^◌, [], ◌∷◌, None};
     ghost use Rattle.ddc_desk.specs.Fronts.{Entered, coded_entered};
     ghost use Rattle.ddc_desk.specs.inside.Steps.{inside};
@@ -80,9 +80,9 @@ impl<T: Grows> Model for Entry<T> {
 
     ghost coded = { coded_entered T.Item.code };
 
-    ghost view = { λ entry. record { desk = entry.place.table_id; ticket = entry.ticket; front = entry.place.me.0.front } };
+    ghost view = { λ begun. record { desk = begun.token.table_id; ticket = begun.ticket; front = begun.token.me.0.front } };
 
-    ghost invariant = { λ entry. (entry.place.me ≡ (inside entry.ticket entry.place.me.0.front, (0, None) ∷ [])) × (entry.ticket < 2 ^ 64 - 1) };
+    ghost invariant = { λ begun. (begun.token.me ≡ (inside begun.ticket begun.token.me.0.front, (0, None) ∷ [])) × (begun.ticket < 2 ^ 64 - 1) };
 }
 
 impl<T: Grows> Desk<T> {
@@ -105,12 +105,12 @@ impl<T: Grows> Desk<T> {
             };
         }
         match Table::new(alloc, &[0, 0], slots, &about) {
-            Ok((board, place)) => Ok((
+            Ok((board, token)) => Ok((
                 Desk {
                     board,
                     bells: Bells::new(),
                 },
-                Seat { place },
+                Seat { token },
             )),
             Err(Refused { mut slots }) => match slots.pop() {
                 Some(Some(value)) => {
@@ -129,8 +129,8 @@ impl<T: Grows> Desk<T> {
         ensures second { IfOk result (λ second. second ≡ seat.old) }
         ensures same { seat.new ≡ seat.old }
     {
-        let place = self.board.shared.split_seat::<SameFront>(&mut seat.place);
-        Ok(Seat { place })
+        let token = self.board.shared.split_seat::<SameFront>(&mut seat.token);
+        Ok(Seat { token })
     }
 
     /// One seat in place of two, which has seen what both have.
@@ -141,62 +141,63 @@ impl<T: Grows> Desk<T> {
         ensures first { IsPrefix seat.front result.front }
         ensures second { IsPrefix other.front result.front }
     {
-        let Seat { mut place } = seat;
-        let Seat { place: second } = other;
+        let Seat { mut token } = seat;
+        let Seat { token: second } = other;
         self.board
             .shared
-            .join_seat::<SideBySide>(&mut place, second);
-        self.board.shared.load::<Compare>(&mut place, 0);
-        Seat { place }
+            .join_seat::<SideBySide>(&mut token, second);
+        self.board.shared.load::<Compare>(&mut token, 0);
+        Seat { token }
     }
 
-    /// Waits until all who came before have left, and takes the value. Where 2^64 - 1 tickets were drawn it waits for
-    /// ever. It takes no memory.
+    /// Waits until all who came before have left, and takes the value. Once 2^64 - 1 tickets were drawn it never returns.
+    /// It takes no memory.
     pub fn enter<R: Wait>(&self, rt: &R, seat: Seat<T>) -> Turn<T>
         requires own { seat.desk ≡ self.now }
-        ensures own { result.entry.desk ≡ self.now }
-        ensures ticket { result.entry.ticket < 2 ^ 64 - 1 }
+        ensures own { result.begun.desk ≡ self.now }
+        ensures ticket { result.begun.ticket < 2 ^ 64 - 1 }
         ensures seen { IsPrefix seat.front (T.list result.value) }
-        ensures entered { result.entry.front ≡ T.list result.value }
+        ensures entered { result.begun.front ≡ T.list result.value }
     {
-        let Seat { mut place } = seat;
-        let ticket = self.draw(rt, &mut place);
-        self.wait(rt, &mut place, ticket);
-        let value = self.take(&mut place, ticket);
+        let Seat { mut token } = seat;
+        let ticket = self.draw(rt, &mut token);
+        self.wait(rt, &mut token, ticket);
+        let value = self.take(&mut token, ticket);
         Turn {
             value,
-            entry: Entry { ticket, place },
+            begun: Begun { ticket, token },
         }
     }
 
-    /// Gives the value back, and lets the next one enter. It takes no memory.
+    /// Gives the value back, with all that its list had, and lets the next one enter. It takes no memory.
     pub fn leave(&self, turn: Turn<T>) -> Seat<T>
-        requires own { turn.entry.desk ≡ self.now }
-        requires grown { IsPrefix turn.entry.front (T.list turn.value) }
+        requires own { turn.begun.desk ≡ self.now }
+        requires grown { IsPrefix turn.begun.front (T.list turn.value) }
         ensures own { result.desk ≡ self.now }
         ensures front { result.front ≡ T.list turn.value }
     {
-        let Turn { value, entry } = turn;
-        let Entry { ticket, mut place } = entry;
-        match self.board.shared.exchange(&mut place, 0, Some(value)) {
+        let Turn { value, begun } = turn;
+        let Begun { ticket, mut token } = begun;
+        match self.board.shared.exchange(&mut token, 0, Some(value)) {
             Some(_) => unreachable!(),
             None => (),
         }
-        self.board.shared.fetch_add::<Serve<T>>(&mut place, 1, 1);
+        self.board.shared.fetch_add::<Serve<T>>(&mut token, 1, 1);
+        // Where the next ticket isn't drawn yet, whoever draws it finds it served.
         let next = ticket + 1;
         if next < self.board.shared.peek(0) {
             self.bells.ring(next);
         }
-        Seat { place }
+        Seat { token }
     }
 
-    // Draws a ticket.
-    fn draw<R: Wait>(&self, rt: &R, place: &mut Place<Option<T>, Known<T::Item>>) -> u64
-        requires own { place.old.table_id ≡ self.now }
-        requires idle { place.old.me ≡ (idle place.old.me.0.front, []) }
-        ensures own { place.new.table_id ≡ place.old.table_id }
+    // Draws the next ticket. The last number isn't drawn, and who comes then sleeps for ever.
+    fn draw<R: Wait>(&self, rt: &R, token: &mut Token<Option<T>, Known<T::Item>>) -> u64
+        requires own { token.old.table_id ≡ self.now }
+        requires idle { token.old.me ≡ (idle token.old.me.0.front, []) }
+        ensures own { token.new.table_id ≡ token.old.table_id }
         ensures small { result < 2 ^ 64 - 1 }
-        ensures waits { place.new.me ≡ (waiting result place.old.me.0.front, []) }
+        ensures waits { token.new.me ≡ (waiting result token.old.me.0.front, []) }
     {
         for _ in rt.forever() {
             let next = self.board.shared.peek(0);
@@ -207,7 +208,7 @@ impl<T: Grows> Desk<T> {
             let found = self
                 .board
                 .shared
-                .compare_exchange::<Draw>(place, 0, next, next + 1);
+                .compare_exchange::<Draw>(token, 0, next, next + 1);
             if found == next {
                 return next;
             }
@@ -216,15 +217,16 @@ impl<T: Grows> Desk<T> {
     }
 
     // Waits until the ticket is served. The seat then has the slot.
-    fn wait<R: Wait>(&self, rt: &R, place: &mut Place<Option<T>, Known<T::Item>>, ticket: u64)
-        requires own { place.old.table_id ≡ self.now }
-        requires waits { place.old.me ≡ (waiting ticket place.old.me.0.front, []) }
-        ensures own { place.new.table_id ≡ place.old.table_id }
-        ensures turn { (x : T) × (place.new.me ≡ (inside ticket (T.list x), (0, Some x) ∷ [])) × IsPrefix place.old.me.0.front (T.list x) }
+    fn wait<R: Wait>(&self, rt: &R, token: &mut Token<Option<T>, Known<T::Item>>, ticket: u64)
+        requires own { token.old.table_id ≡ self.now }
+        requires waits { token.old.me ≡ (waiting ticket token.old.me.0.front, []) }
+        ensures own { token.new.table_id ≡ token.old.table_id }
+        ensures turn { (x : T) × (token.new.me ≡ (inside ticket (T.list x), (0, Some x) ∷ [])) × IsPrefix token.old.me.0.front (T.list x) }
     {
         for _ in rt.forever() {
+            // The bell is heard before the look, so that a ring between the two isn't slept through.
             let heard = self.bells.heard(ticket);
-            if self.board.shared.load::<Look<T>>(place, 1) == ticket {
+            if self.board.shared.load::<Look<T>>(token, 1) == ticket {
                 return;
             }
             self.bells.sleep(rt, ticket, heard);
@@ -233,14 +235,14 @@ impl<T: Grows> Desk<T> {
     }
 
     // Takes the value out of the slot.
-    fn take(&self, place: &mut Place<Option<T>, Known<T::Item>>, ticket: u64) -> T
-        requires own { place.old.table_id ≡ self.now }
-        requires turn { (x : T) × (place.old.me ≡ (inside ticket (T.list x), (0, Some x) ∷ [])) }
-        ensures own { place.new.table_id ≡ place.old.table_id }
-        ensures turn { place.new.me ≡ (inside ticket (T.list result), (0, None) ∷ []) }
-        ensures value { place.old.me.1 ≡ (0, Some result) ∷ [] }
+    fn take(&self, token: &mut Token<Option<T>, Known<T::Item>>, ticket: u64) -> T
+        requires own { token.old.table_id ≡ self.now }
+        requires turn { (x : T) × (token.old.me ≡ (inside ticket (T.list x), (0, Some x) ∷ [])) }
+        ensures own { token.new.table_id ≡ token.old.table_id }
+        ensures turn { token.new.me ≡ (inside ticket (T.list result), (0, None) ∷ []) }
+        ensures value { token.old.me.1 ≡ (0, Some result) ∷ [] }
     {
-        match self.board.shared.exchange(place, 0, None) {
+        match self.board.shared.exchange(token, 0, None) {
             Some(value) => value,
             None => unreachable!(),
         }

@@ -1,10 +1,11 @@
 //! A value that many threads use one at a time, in the order in which they came.
 //!
-//! A thread comes with a seat, which stands for what it has seen of the value: the front of the value's list that it knows. It enters, has the value for one turn, and leaves. The value's list
-//! only grows, so each front is a front of the list in every later turn.
+//! A thread comes with a seat, which stands for what it has seen: the front of the value's list at its last turn. It
+//! draws a ticket, waits for its turn, has the value, and leaves with the value's list as its new front. The list only
+//! grows, so each front is a front of the list in every later turn, and of two fronts one begins the other.
 //!
-//! Who waits sleeps, and is woken when its turn has come. No clause says that a turn comes, and after `Turn::close`
-//! none does.
+//! Who waits sleeps, and who leaves wakes the next one alone. No clause says that a turn ever comes: who keeps the value
+//! keeps all others waiting, and after `Turn::close` they wait for ever.
 #![tactic(auto)]
 
 mod bells;

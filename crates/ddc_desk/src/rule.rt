@@ -1,4 +1,5 @@
-// The rule that the words and the slot of a desk keep, and what each step tells.
+//! The rule that the words and the slot of a desk keep, and what each step tells the seat that makes it.
+
 use crate::grows::Grows;
 use atomic_table::{Join, Play, Split, TableRule};
 use std::collections::LinkedList;
@@ -23,6 +24,7 @@ pub struct Known<I> {
     pub other: LinkedList<I>,
 }
 
+/// What holds of a desk between any two steps.
 pub struct Rule<T> {
     of: PhantomData<T>,
 }
@@ -35,6 +37,7 @@ impl<T: Grows> TableRule<Option<T>, Known<T::Item>, Snapshot<T>> for Rule<T> {
     ghost first = { λ value. idle (T.list value.value) };
 }
 
+/// The next ticket is drawn.
 pub struct Draw;
 
 impl<T, I> Play<Option<T>, Known<I>> for Draw {
@@ -43,6 +46,7 @@ impl<T, I> Play<Option<T>, Known<I>> for Draw {
     ghost then = { Draws };
 }
 
+/// A look at the ticket that is served.
 pub struct Look<T> {
     of: PhantomData<T>,
 }
@@ -53,6 +57,7 @@ impl<T: Grows> Play<Option<T>, Known<T::Item>> for Look<T> {
     ghost then = { Looks T.list };
 }
 
+/// The next ticket is served.
 pub struct Serve<T> {
     of: PhantomData<T>,
 }
@@ -63,6 +68,7 @@ impl<T: Grows> Play<Option<T>, Known<T::Item>> for Serve<T> {
     ghost then = { Serves T.list };
 }
 
+/// The fronts of two seats that were joined are compared.
 pub struct Compare;
 
 impl<T, I> Play<Option<T>, Known<I>> for Compare {
@@ -71,6 +77,7 @@ impl<T, I> Play<Option<T>, Known<I>> for Compare {
     ghost then = { Compares };
 }
 
+/// A second seat has the front of the first.
 pub struct SameFront;
 
 impl<I> Split<Known<I>> for SameFront {
@@ -81,6 +88,7 @@ impl<I> Split<Known<I>> for SameFront {
     ghost right = { λ known. idle known.front };
 }
 
+/// A seat has the front of another one beside its own.
 pub struct SideBySide;
 
 impl<I> Join<Known<I>> for SideBySide {

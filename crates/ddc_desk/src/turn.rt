@@ -21,7 +21,7 @@ impl<T: Grows> Turn<T> {
     pub fn close(self) -> T
         ensures { result ≡ self.value }
     {
-        let Turn { value, entry: _ } = self;
+        let Turn { value, begun: _ } = self;
         value
     }
 }

@@ -26,31 +26,35 @@ module _ {I : Type 0} where
   abbrev pub beside : Known I → Known I → Known I
   beside mine other = record { role = mine.role; front = mine.front; other = other.front }
 
-  -- what is so of a seat at a role: the ticket t is drawn next, s is served, `owner` says who drew each ticket, `busy` whether a turn goes on, and `published` is the list that was published last
-  abbrev pub HasRole : ℕ → ℕ → (ℕ → ℕ) → Bool → List I → ℕ → List I → Role → Type 0
-  HasRole t s owner busy published seat front Idle = Unit {0}
-  HasRole t s owner busy published seat front (Waits n) = (s ≤ n) × (n < t) × (owner n ≡ seat) × (n ≡ s → busy ≡ false)
-  HasRole t s owner busy published seat front (In n) = (n ≡ s) × (n < t) × (owner n ≡ seat) × (front ≡ published) × (busy ≡ true)
-
-  -- what a seat knows is so: all that it has seen begins what was published
-  abbrev pub IsSo : ℕ → ℕ → (ℕ → ℕ) → Bool → List I → ℕ → Known I → Type 0
-  IsSo t s owner busy published seat known =
-      IsPrefix known.front published × IsPrefix known.other published × HasRole t s owner busy published seat known.front known.role
-
--- the rule: the value is in the slot while no turn goes on, and its list is the one that was published last
-pub record IsKept {T I : Type 0} (list : T → List I) (s : State (Option T) (Known I)) : Type 0 where
+-- a desk between two steps: the ticket that is drawn next, the ticket that is served, the seat that drew each, whether a turn goes on, and the list that was published last
+pub record Standing (I : Type 0) : Type 0 where
   pub ticket : ℕ
   pub serving : ℕ
   pub owner : ℕ → ℕ
   pub busy : Bool
   pub published : List I
-  pub words_are : s.words ≡ ticket ∷ serving ∷ []
-  pub ordered : serving ≤ ticket
-  pub small : ticket < 2 ^ 64
-  pub drawn : busy ≡ true → serving < ticket
-  pub at_home : busy ≡ false → (x : T) × (s.homes ≡ some (Some x) ∷ []) × (list x ≡ published)
-  pub away : busy ≡ true → s.homes ≡ none ∷ []
-  pub each : (seat : ℕ) (known : Known I) → get_elem? s.views seat ≡ some known → IsSo ticket serving owner busy published seat known
+
+module _ {I : Type 0} where
+  -- what is so of a seat at its role: a ticket waits until it is served, and until no turn goes on then; a turn is that of the ticket that is served, and its front is what was published
+  abbrev pub HasRole : Standing I → ℕ → List I → Role → Type 0
+  HasRole desk seat front Idle = Unit {0}
+  HasRole desk seat front (Waits n) = (desk.serving ≤ n) × (n < desk.ticket) × (desk.owner n ≡ seat) × (n ≡ desk.serving → desk.busy ≡ false)
+  HasRole desk seat front (In n) = (n ≡ desk.serving) × (n < desk.ticket) × (desk.owner n ≡ seat) × (front ≡ desk.published) × (desk.busy ≡ true)
+
+  -- what a seat knows is so: all that it has seen begins what was published
+  abbrev pub IsSo : Standing I → ℕ → Known I → Type 0
+  IsSo desk seat known = IsPrefix known.front desk.published × IsPrefix known.other desk.published × HasRole desk seat known.front known.role
+
+-- the rule: the value is in the slot while no turn goes on, and its list is the one that was published last
+pub record IsKept {T I : Type 0} (list : T → List I) (s : State (Option T) (Known I)) : Type 0 where
+  pub desk : Standing I
+  pub words_are : s.words ≡ desk.ticket ∷ desk.serving ∷ []
+  pub ordered : desk.serving ≤ desk.ticket
+  pub small : desk.ticket < 2 ^ 64
+  pub drawn : desk.busy ≡ true → desk.serving < desk.ticket
+  pub at_home : desk.busy ≡ false → (x : T) × (s.homes ≡ some (Some x) ∷ []) × (list x ≡ desk.published)
+  pub away : desk.busy ≡ true → s.homes ≡ none ∷ []
+  pub each : (seat : ℕ) (known : Known I) → get_elem? s.views seat ≡ some known → IsSo desk seat known
 
 module _ {T I : Type 0} where
   -- the ticket was drawn, or another seat was quicker

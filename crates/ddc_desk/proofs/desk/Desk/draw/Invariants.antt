@@ -4,4 +4,4 @@ use Rattle.ddc_desk.proofs.desk.Desk.draw.Given as goal
 abbrev pub invariant-loop : goal.invariant-loop
 invariant-loop g l =
     (goal.iterator-loop g).can_next l.iterator' × (goal.iterator-loop g).is_finite l.iterator'
-    × (l.place.me ≡ l.initial.place.me) × (l.place.table_id ≡ l.initial.place.table_id)
+    × (l.token.me ≡ l.initial.token.me) × (l.token.table_id ≡ l.initial.token.table_id)
