@@ -5,6 +5,6 @@
 #[cfg(test)]
 mod command;
 #[cfg(test)]
-mod http;
+mod requests;
 #[cfg(test)]
 mod service;
