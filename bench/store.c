@@ -1,10 +1,12 @@
-/* What bench/store compares with and feeds to the program: the journal's writes and syncs in plain C, requests that put and
-   get numbered blobs, and a journal of many blobs.
+/* What bench/store compares with and feeds to the program: a store's writes and syncs in plain C, requests that put and get
+   numbered blobs, and the files of a store of many blobs.
 
-     peer FILE COUNT SIZE    COUNT bodies of SIZE bytes, each by a write, a sync, a write and a sync
+     peer FOLDER COUNT SIZE  COUNT blobs of SIZE bytes: each written and synced in one file, and then an item in another by a
+                             write, a sync, a write and a sync
      puts FIRST COUNT SIZE   requests that put the blobs FIRST, FIRST + 1, ..
      gets COUNT OF SIZE      COUNT requests, each for one of the first OF blobs
-     journal COUNT SIZE      a journal with the namespace `game` and the first COUNT blobs */
+     journal COUNT SIZE      the journal of a store with the namespace `game` and the first COUNT blobs
+     blobs COUNT SIZE        its blob file */
 #include "blake3.h"
 #include <fcntl.h>
 #include <stdint.h>
@@ -35,18 +37,44 @@ static void print_request(const char *method, const uint8_t *hash) {
     printf(" HTTP/1.1\r\n");
 }
 
-static int peer(const char *path, uint64_t count, size_t size) {
-    int file = open(path, O_RDWR | O_CREAT | O_TRUNC, 0644);
-    uint8_t *item = malloc(size + 5), open_gate = 1;
+/* The bytes of the units of 4,096 bytes that a blob of this size takes. */
+static uint64_t extent_of(size_t size) {
+    return (size + 4095) / 4096 * 4096;
+}
+
+/* The length, the body and a closing gate of an item that adds the blob of a number. */
+static uint8_t item[55];
+
+static void set_item(uint64_t number, const uint8_t *blob, size_t size) {
+    put_le(item, 50, 4);
+    item[4] = 2;
+    memcpy(item + 5, "\4game", 5);
+    hash_of(blob, size, item + 10);
+    put_le(item + 30, size, 8);
+    put_le(item + 38, number * (extent_of(size) / 4096), 8);
+}
+
+static int open_in(const char *folder, const char *name) {
+    char path[4096];
+    snprintf(path, sizeof path, "%s/%s", folder, name);
+    return open(path, O_RDWR | O_CREAT | O_TRUNC, 0644);
+}
+
+static int written(int file, const void *bytes, size_t size, off_t at) {
+    return pwrite(file, bytes, size, at) == (ssize_t)size && !fdatasync(file);
+}
+
+static int peer(const char *folder, uint64_t count, size_t size) {
+    int journal = open_in(folder, "journal"), blobs = open_in(folder, "blobs");
+    uint8_t *blob = malloc(size), open_gate = 1;
     off_t gate = 21;
-    if (file < 0 || !item) return 1;
+    if (journal < 0 || blobs < 0 || !blob) return 1;
     for (uint64_t i = 0; i < count; i++) {
-        put_le(item, size, 4);
-        blob_of(i, item + 4, size);
-        item[size + 4] = 0;
-        if (pwrite(file, item, size + 5, gate + 1) != (ssize_t)(size + 5) || fdatasync(file)) return 1;
-        if (pwrite(file, &open_gate, 1, gate) != 1 || fdatasync(file)) return 1;
-        gate += size + 5;
+        blob_of(i, blob, size);
+        set_item(i, blob, size);
+        if (!written(blobs, blob, size, i * extent_of(size))) return 1;
+        if (!written(journal, item, sizeof item, gate + 1) || !written(journal, &open_gate, 1, gate)) return 1;
+        gate += sizeof item;
     }
     return 0;
 }
@@ -77,22 +105,28 @@ static int gets_of(uint64_t count, uint64_t of, size_t size) {
 }
 
 static int journal(uint64_t count, size_t size) {
-    static const uint8_t head[] = {'D', 'D', 'C', 'J', 'L', 'O', 'G', 10, 0, 0, 0, 0, 1, 0, 0, 0, 0, 0, 0, 0, 1,
+    static const uint8_t head[] = {'D', 'D', 'C', 'J', 'L', 'O', 'G', 10, 1, 0, 0, 0, 1, 0, 0, 0, 0, 0, 0, 0, 1,
                                    1, 14, 0, 0, 0, 1, 4, 'g', 'a', 'm', 'e', 24, 0, 0, 0, 4, 0, 0, 0};
-    uint8_t *item = calloc(1, size + 55);
-    if (!item) return 1;
+    uint8_t *blob = malloc(size);
+    if (!blob) return 1;
     fwrite(head, 1, sizeof head, stdout);
     for (uint64_t i = 0; i < count; i++) {
-        item[0] = 1;
-        put_le(item + 1, size + 50, 4);
-        item[5] = 2;
-        memcpy(item + 6, "\4game", 5);
-        blob_of(i, item + 55, size);
-        hash_of(item + 55, size, item + 11);
-        put_le(item + 31, size, 8);
-        fwrite(item, 1, size + 55, stdout);
+        blob_of(i, blob, size);
+        set_item(i, blob, size);
+        putchar(1);
+        fwrite(item, 1, sizeof item - 1, stdout);
     }
     putchar(0);
+    return 0;
+}
+
+static int blobs(uint64_t count, size_t size) {
+    uint8_t *blob = calloc(1, extent_of(size));
+    if (!blob) return 1;
+    for (uint64_t i = 0; i < count; i++) {
+        blob_of(i, blob, size);
+        fwrite(blob, 1, extent_of(size), stdout);
+    }
     return 0;
 }
 
@@ -101,5 +135,6 @@ int main(int argc, char **argv) {
     if (argc == 5 && !strcmp(argv[1], "puts")) return puts_of(atoll(argv[2]), atoll(argv[3]), atoll(argv[4]));
     if (argc == 5 && !strcmp(argv[1], "gets")) return gets_of(atoll(argv[2]), atoll(argv[3]), atoll(argv[4]));
     if (argc == 4 && !strcmp(argv[1], "journal")) return journal(atoll(argv[2]), atoll(argv[3]));
+    if (argc == 4 && !strcmp(argv[1], "blobs")) return blobs(atoll(argv[2]), atoll(argv[3]));
     return 2;
 }

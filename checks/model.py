@@ -2,8 +2,10 @@
 simplest means.
 
 Nothing here is taken from the program: the hash follows the BLAKE3 specification's recursion, objects follow
-CompactBinary.h, heads the grammar of RFC 9112 as httparse reads it, and the store is lists and dictionaries.
+CompactBinary.h, heads the grammar of RFC 9112 as httparse reads it, and the store is dictionaries over three disks that
+list their calls (checks/disks.py).
 """
+from disks import Failed
 
 # ---- the tree hash (BLAKE3 specification, section 2)
 
@@ -342,6 +344,9 @@ def cut(data):
 
 # ---- entries and the journal
 
+UNIT = 4096
+
+
 def four(number):
     return number.to_bytes(4, 'little')
 
@@ -358,17 +363,13 @@ def spelled_name(name):
     return spelled_text(name[0]) + spelled_text(name[1]) + name[2]
 
 
-def spelled_row(named, length, links):
+def spelled_row(named, length, start, links):
     spelled = b''.join((b'\x00' if is_object else b'\x01') + other for is_object, other in links)
-    return named + eight(length) + eight(0) + four(len(links)) + spelled
-
-
-def spelled_blob(data):
-    return spelled_row(io_hash(data), len(data), links_of(data))
+    return named + eight(length) + eight(start) + four(len(links)) + spelled
 
 
 def spelled_entry(kind, *fields):
-    """The entry of a kind with its fields, as a reader gives them."""
+    """The body of an entry of a kind with its fields, as a reader gives them."""
     front = bytes([('space', 'upload', 'repin', 'put', 'finalise', 'delete', 'touch').index(kind) + 1])
     front += spelled_text(fields[0]) if kind in ('space', 'upload', 'repin') else spelled_name(fields[0])
     if kind == 'space':
@@ -379,6 +380,15 @@ def spelled_entry(kind, *fields):
         _, root, blob, whole, hour = fields
         return front + root + (b'\x01' + spelled_row(*blob) if blob else b'\x00') + bytes([whole]) + four(hour)
     return front + b''.join(fields[1:-1]) + four(fields[-1])
+
+
+def space_of(entry):
+    return entry[1] if entry[0] in ('space', 'upload', 'repin') else entry[1][0]
+
+
+def fresh_of(entry):
+    """The hash, the length, the first unit and the links of the blob that an entry adds, or None."""
+    return entry[2] if entry[0] == 'upload' else entry[3] if entry[0] == 'put' else None
 
 
 class NoEntry(Exception):
@@ -441,47 +451,77 @@ class Reader:
         raise NoEntry
 
 
-HEADER = b'DDCJLOG\n' + four(0) + eight(1)
+def entry_of(body):
+    """The entry that a body spells, with nothing after it."""
+    reader = Reader(body)
+    entry = reader.entry()
+    if reader.at != len(body):
+        raise NoEntry
+    return entry
+
+
+MAGIC, VERSION = b'DDCJLOG\n', 1
+
+
+def journal(bodies, generation=1, version=VERSION, gate=1):
+    """The file of a journal."""
+    items = b''.join(b'\x01' + four(len(body)) + body for body in bodies)
+    return MAGIC + four(version) + eight(generation) + bytes([gate]) + items + b'\x00'
 
 
 class Unopened(Exception):
-    """Why a file is no store, in the words of the note."""
+    """Why there is no store, in the words of the note."""
 
 
-def item_bodies(data):
-    """The bodies of a journal file with the places of their gates."""
-    if data[20:21] != b'\x01' or data[12:20] == bytes(8):
+def rank(data):
+    """The generation of a file whose gate is open, and else 0."""
+    return int.from_bytes(data[12:20], 'little') if data[20:21] == b'\x01' else 0
+
+
+def item_bodies(data, number=0):
+    """The bodies of the journal file of this number, with the places of their gates."""
+    if rank(data) == 0:
         raise Unopened('not made')
-    if data[:8] != HEADER[:8]:
-        raise Unopened('corrupt file 0 at 0')
-    if data[8:12] != four(0):
+    if data[:8] != MAGIC:
+        raise Unopened('corrupt file %d at 0' % number)
+    if data[8:12] != four(VERSION):
         raise Unopened('version %d' % int.from_bytes(data[8:12], 'little'))
     if len(data) < 22:
-        raise Unopened('corrupt file 0 at 20')
+        raise Unopened('corrupt file %d at 20' % number)
     at, bodies = 21, []
     while data[at] == 1:
         end = at + 5 + int.from_bytes(data[at + 1:at + 5], 'little')
         if len(data) < at + 5 or len(data) <= end:
-            raise Unopened('corrupt file 0 at %d' % at)
+            raise Unopened('corrupt file %d at %d' % (number, at))
         bodies.append((at, data[at + 5:end]))
         at = end
     return bodies
 
 
-# ---- the store
+# ---- a state, and what entries do to it
 
-MOST = {'spaces': 64, 'blobs': 2097152, 'refs': 1048576, 'links': 16777216}
+MOST = {'spaces': 64, 'blobs': 2097152, 'refs': 1048576, 'links': 16777216, 'units': 268435456, 'entries': 4194304,
+        'entry_links': 16777216}
 MOST_BYTES, MOST_LINKS = 67108864, 4194304
 
 
 class Refused(Exception):
-    def __init__(self, status, **body):
-        self.status, self.body = status, body
+    """A refusal of a store, by its code and what is told of it."""
+
+    def __init__(self, code, **fields):
+        self.code, self.fields = code, fields
+
+
+def units_of(length):
+    return (length + UNIT - 1) // UNIT
 
 
 class Blob:
-    def __init__(self, data, links, at):
-        self.data, self.links, self.at = data, links, at
+    def __init__(self, length, start, links, at):
+        self.length, self.start, self.links, self.at = length, start, links, at
+
+    def end(self):
+        return self.start + units_of(self.length)
 
 
 class Slot:
@@ -489,38 +529,35 @@ class Slot:
         self.done, self.pending, self.seen = done, pending, seen
 
 
-class Store:
-    """Namespaces, blobs by namespace and hash, references with their finalised and pending objects, and the bodies of the
-    journal that leads here."""
+class State:
+    """Namespaces, blobs by namespace and hash, references with their finalised and pending objects, and the hour."""
 
-    def __init__(self, header=HEADER):
-        self.spaces, self.blobs, self.slots, self.hour, self.bodies, self.header = {}, {}, {}, 0, [], header
+    def __init__(self, most=MOST):
+        self.spaces, self.blobs, self.slots, self.hour, self.most = {}, {}, {}, 0, most
 
-    def file(self):
-        return self.header + b'\x01' + b''.join(b'\x01' + four(len(body)) + body for body in self.bodies) + b'\x00'
+    # ---- the units of the blob file
 
-    def made(self, body):
-        self.bodies.append(body)
+    def is_free(self, start, units):
+        """Whether units lie below the limit and none of them is a blob's."""
+        return start + units <= self.most['units'] and not any(
+            max(start, blob.start) < min(start + units, blob.end()) for blob in self.blobs.values())
 
-    def raise_hour(self, hour):
-        self.hour = max(self.hour, hour)
-        return self.hour
+    def free_run(self, length):
+        """The first unit of the first free run that holds so many bytes, or None. Such a run begins at 0 or where a blob
+        ends: one that begins elsewhere can begin a unit earlier."""
+        if length == 0:
+            return 0
+        starts = sorted({0} | {blob.end() for blob in self.blobs.values()})
+        return next((start for start in starts if self.is_free(start, units_of(length))), None)
 
-    def in_space(self, space):
-        if space not in self.spaces:
-            raise Refused(404, error='unknown_namespace')
+    def row(self, data):
+        """A blob of these bytes, as it is added."""
+        return io_hash(data), len(data), self.free_run(len(data)) or 0, links_of(data)
 
-    def room(self, key, data, name=None):
-        links = sum(len(blob.links) for blob in self.blobs.values())
-        counts = [('blobs', len(self.blobs), 0 if key in self.blobs else 1),
-                  ('refs', len(self.slots), 1 if name is not None and name not in self.slots else 0),
-                  ('links', links, 0 if key in self.blobs else len(links_of(data)))]
-        for what, count, more in counts:
-            if more and count + more > MOST[what]:
-                raise Refused(507, error='full', limit=MOST[what], what=what)
+    # ---- closures
 
-    def needs(self, space, root):
-        """What is missing of an object's closure: ascending, each once."""
+    def needs(self, space, root, fresh=None):
+        """What is missing of an object's closure: ascending, each once. A root that is added has the links `fresh`."""
         reached, seen, missing = [(True, root)], set(), set()
         while reached:
             node = reached.pop()
@@ -528,10 +565,11 @@ class Store:
                 continue
             seen.add(node)
             blob = self.blobs.get((space, node[1]))
-            if blob is None:
+            links = fresh if blob is None and node[1] == root else blob.links if blob else None
+            if links is None:
                 missing.add(node[1])
             elif node[0]:
-                reached += blob.links
+                reached += links
         return sorted(missing)
 
     def first_unsound(self):
@@ -542,148 +580,256 @@ class Store:
                 return name
         return None
 
-    def set_space(self, space, ttl, pin):
-        self.spaces[space] = ttl, pin
-        self.made(b'\x01' + spelled_text(space) + four(ttl) + four(pin))
+    # ---- entries
 
-    def put_blob(self, hour, space, data):
-        self.in_space(space)
-        key, hour = (space, io_hash(data)), max(hour, self.hour)
-        self.room(key, data)
-        if key not in self.blobs:
-            self.blobs[key] = Blob(data, links_of(data), self.raise_hour(hour))
-            self.made(b'\x02' + spelled_text(space) + spelled_blob(data) + four(hour) + data)
-        elif self.blobs[key].at < hour:
-            self.blobs[key].at = self.raise_hour(hour)
-            self.made(b'\x03' + spelled_text(space) + key[1] + four(hour))
-        return key[1]
+    def is_fresh(self, space, blob):
+        named, length, start, links = blob
+        return (space, named) not in self.blobs and length <= MOST_BYTES and len(links) <= MOST_LINKS \
+            and self.is_free(start, units_of(length))
 
-    def get_blob(self, hour, space, named):
-        self.in_space(space)
-        if (space, named) not in self.blobs:
-            raise Refused(404, error='not_found')
-        return self.served(space, named)
+    def is_legal(self, entry):
+        kind, where, *rest = entry
+        space, slot = space_of(entry), self.slots.get(where)
+        if kind == 'space':
+            return all(1 <= time <= 1000000 for time in rest)
+        if space not in self.spaces:
+            return False
+        if kind == 'upload':
+            return self.is_fresh(space, rest[0])
+        if kind == 'put' and rest[1]:
+            return rest[1][0] == rest[0] and self.is_fresh(space, rest[1])
+        if kind in ('repin', 'put'):
+            return (space, rest[0]) in self.blobs
+        if kind == 'finalise':
+            return slot is not None and slot.pending == rest[0]
+        return slot is not None and (kind == 'delete' or slot.done is not None)
+
+    def follow(self, entry):
+        """Makes the change of an entry; raises NoEntry where it isn't legal."""
+        if not self.is_legal(entry):
+            raise NoEntry
+        kind, where, *rest = entry
+        if kind == 'space':
+            self.spaces[where] = tuple(rest)
+            return
+        space, blob, hour = space_of(entry), fresh_of(entry), rest[-1]
+        if blob:
+            self.blobs[space, blob[0]] = Blob(*blob[1:], hour)
+        elif kind in ('repin', 'put'):
+            self.blobs[space, rest[0]].at = max(self.blobs[space, rest[0]].at, hour)
+        if kind == 'put':
+            done = self.slots[where].done if where in self.slots else None
+            self.slots[where] = Slot(rest[0], None, hour) if rest[2] else Slot(done, rest[0], hour)
+        elif kind == 'finalise':
+            self.slots[where] = Slot(rest[0], None, hour)
+        elif kind == 'delete':
+            del self.slots[where]
+        elif kind == 'touch':
+            self.slots[where].seen = hour
+        self.hour = max(self.hour, hour)
+
+    def fits(self, entry):
+        """Refuses an entry that would pass a limit."""
+        blob, links = fresh_of(entry), sum(len(blob.links) for blob in self.blobs.values())
+        counts = [('spaces', len(self.spaces), entry[0] == 'space' and entry[1] not in self.spaces),
+                  ('blobs', len(self.blobs), blob is not None),
+                  ('refs', len(self.slots), entry[0] == 'put' and entry[1] not in self.slots),
+                  ('links', links, len(blob[3]) if blob else 0)]
+        for what, count, more in counts:
+            if more and count + more > self.most[what]:
+                raise Refused('full', limit=self.most[what], what=what)
+        if blob and self.free_run(blob[1]) is None:
+            raise Refused('full', limit=self.most['units'], what='units')
+
+
+# ---- a store: three disks, and the state that they lead to
+
+def close(disk):
+    """Closes a journal file."""
+    if disk.length() < 21:
+        disk.write_sure(0, bytes(20))
+        disk.write_sure(20, b'\x00')
+    elif disk.read(20, 1) == b'\x01':
+        disk.write_sure(20, b'\x00')
+
+
+def sync_all(disks):
+    for disk in disks.blobs, disks.first, disks.second:
+        disk.sync()
+
+
+def create(disks, most=MOST):
+    """An empty store, made over whatever the disks held."""
+    sync_all(disks)
+    close(disks.second)
+    close(disks.first)
+    empty = journal([])
+    disks.first.write(0, empty[:20])
+    disks.first.write_sure(21, empty[21:])
+    disks.first.write_sure(20, b'\x01')
+    return Store(disks, disks.first, State(most), [])
+
+
+def load(disks, most=MOST):
+    """The store that the disks hold; raises Unopened."""
+    sync_all(disks)
+    first, second = (disk.read(0, 21) for disk in (disks.first, disks.second))
+    number = int(rank(first) < rank(second))
+    active = disks.all()[number]
+    items, state = item_bodies(active.read(0, active.length()), number), State(most)
+    for at, body in items:
+        try:
+            state.follow(entry_of(body))
+        except NoEntry:
+            raise Unopened('corrupt file %d at %d' % (number, at)) from None
+    name = state.first_unsound()
+    if name is not None:
+        raise Unopened('unsound %s/%s/%s' % (name[0].decode(), name[1].decode(), name[2].hex()))
+    return Store(disks, active, state, [body for _, body in items])
+
+
+class Store:
+    """An open store. Each command makes at most one entry. The steps are those since before the opening."""
+
+    def __init__(self, disks, active, state, bodies):
+        self.disks, self.active, self.state = disks, active, state
+        self.end = len(journal(bodies)) - 1
+        self.entries, self.links, self.broken = 0, 0, None
+        self.steps = ['change'] * len(bodies) + ['loaded:%d' % disks.faults()]
+
+    # ---- entries and reads
+
+    def in_history(self, entry):
+        """Refuses an entry for which the history has no room."""
+        links = len(fresh_of(entry)[3]) if fresh_of(entry) else 0
+        if self.state.most['entries'] < self.entries + 1 or self.state.most['entry_links'] < self.links + links:
+            raise Refused('history_full', entries=self.entries, links=self.links)
+        return links
+
+    def breaks(self, before, changed):
+        self.broken = self.disks.faults()
+        self.steps.append('broke:%s:%d:%d' % (str(changed).lower(), before, self.broken))
+        raise Refused('disk_failed')
+
+    def make(self, *entry, data=b''):
+        """Makes an entry, with the bytes of the blob that it adds: the step, the new state, and then the calls."""
+        self.state.fits(entry)
+        self.links += self.in_history(entry)
+        self.entries += 1
+        self.state.follow(entry)
+        self.steps.append('change')
+        body, before = spelled_entry(*entry), self.disks.faults()
+        try:
+            if data:
+                self.disks.blobs.write_sure(UNIT * fresh_of(entry)[2], data)
+            self.active.write_sure(self.end + 1, four(len(body)) + body + b'\x00')
+            self.active.write_sure(self.end, b'\x01')
+        except Failed:
+            self.breaks(before, True)
+        self.end += 5 + len(body)
+
+    def serves(self, space):
+        if self.broken is not None:
+            raise Refused('broken', faults=self.broken)
+        if space not in self.state.spaces:
+            raise Refused('unknown_namespace')
+
+    def blob(self, space, named):
+        if (space, named) not in self.state.blobs:
+            raise Refused('not_found')
+        return self.state.blobs[space, named]
 
     def served(self, space, named):
-        data = self.blobs[space, named].data
+        """The bytes of a blob, by one read."""
+        blob, before = self.blob(space, named), self.disks.faults()
+        try:
+            data = self.disks.blobs.read(UNIT * blob.start, blob.length)
+        except Failed:
+            self.breaks(before, False)
         if io_hash(data) != named:
-            raise Refused(500, error='damaged', found=io_hash(data).hex(), named=named.hex())
+            raise Refused('damaged', found=io_hash(data).hex(), named=named.hex())
         return data
 
-    def put_ref(self, hour, name, data):
-        self.in_space(name[0])
-        root, hour = io_hash(data), max(hour, self.hour)
-        key = name[0], root
-        self.room(key, data, name)
-        fresh = b'\x00' if key in self.blobs else b'\x01' + spelled_blob(data)
-        if key in self.blobs:
-            self.blobs[key].at = max(self.blobs[key].at, hour)
-        else:
-            self.blobs[key] = Blob(data, links_of(data), hour)
-        missing = self.needs(name[0], root)
-        done = self.slots[name].done if name in self.slots else None
-        self.slots[name] = Slot(done, root, hour) if missing else Slot(root, None, hour)
-        self.made(b'\x04' + spelled_name(name) + root + fresh + (b'\x00' if missing else b'\x01') + four(self.raise_hour(hour)) + (data if fresh[0] else b''))
-        return missing
-
     def slot(self, name):
-        self.in_space(name[0])
-        if name not in self.slots:
-            raise Refused(404, error='not_found')
-        return self.slots[name]
+        self.serves(name[0])
+        if name not in self.state.slots:
+            raise Refused('not_found')
+        return self.state.slots[name]
+
+    def done(self, name):
+        done = self.slot(name).done
+        if done is None:
+            raise Refused('not_finalised')
+        return done
+
+    # ---- the commands
+
+    def set_space(self, space, ttl, pin):
+        if self.broken is not None:
+            raise Refused('broken', faults=self.broken)
+        self.make('space', space, ttl, pin)
+
+    def upload(self, hour, space, data):
+        self.serves(space)
+        named, hour = io_hash(data), max(hour, self.state.hour)
+        blob = self.state.blobs.get((space, named))
+        if blob is None:
+            self.make('upload', space, self.state.row(data), hour, data=data)
+        elif blob.at < hour:
+            self.make('repin', space, named, hour)
+        return named
+
+    def put(self, hour, name, data):
+        self.serves(name[0])
+        root, hour = io_hash(data), max(hour, self.state.hour)
+        if (name[0], root) in self.state.blobs:
+            fresh, data = None, b''
+        else:
+            fresh = self.state.row(data)
+        missing = self.state.needs(name[0], root, fresh and fresh[3])
+        self.make('put', name, root, fresh, int(not missing), hour, data=data)
+        return missing
 
     def finalise(self, hour, name, named):
         slot = self.slot(name)
         if slot.done == named:
             return []
         if slot.pending != named:
-            raise Refused(409, error='not_pending')
-        missing = self.needs(name[0], named)
+            raise Refused('not_pending')
+        missing = self.state.needs(name[0], named)
         if not missing:
-            hour = self.raise_hour(hour)
-            self.slots[name] = Slot(named, None, hour)
-            self.made(b'\x05' + spelled_name(name) + named + four(hour))
+            self.make('finalise', name, named, max(hour, self.state.hour))
         return missing
 
     def get_ref(self, hour, name):
-        slot = self.slot(name)
-        if slot.done is None:
-            raise Refused(404, error='not_finalised')
-        data = self.served(name[0], slot.done)
-        if slot.seen < max(hour, self.hour):
-            slot.seen = self.raise_hour(hour)
-            self.made(b'\x07' + spelled_name(name) + four(slot.seen))
-        return slot.done, data
+        done, hour = self.done(name), max(hour, self.state.hour)
+        data, entry = self.served(name[0], done), ('touch', name, hour)
+        if self.state.slots[name].seen < hour:
+            try:
+                self.in_history(entry)
+            except Refused:
+                return done, data
+            self.make(*entry)
+        return done, data
 
-    # ---- what a journal leads to
+    def delete(self, hour, name):
+        self.slot(name)
+        self.make('delete', name, max(hour, self.state.hour))
 
-    def fresh(self, space, blob, data, hour):
-        named, length, _start, links = blob
-        if (space, named) in self.blobs or length > MOST_BYTES or len(links) > MOST_LINKS:
-            raise NoEntry
-        self.blobs[space, named] = Blob(data, links, hour)
+    def peek_ref(self, name):
+        return self.done(name), self.blob(name[0], self.done(name)).length
 
-    def follow(self, body):
-        """Makes the change of a body; raises NoEntry where it is none that is legal."""
-        reader = Reader(body)
-        kind, *fields = reader.entry()
-        data = body[reader.at:]
-        blob = fields[1] if kind == 'upload' else fields[2] if kind == 'put' else None
-        if len(data) != (blob[1] if blob else 0):
-            raise NoEntry
-        where = fields[0] if kind in ('space', 'upload', 'repin') else fields[0][0]
-        if kind != 'space' and where not in self.spaces:
-            raise NoEntry
-        hour = fields[-1]
-        if kind == 'space':
-            if not 1 <= fields[1] <= 1000000 or not 1 <= fields[2] <= 1000000:
-                raise NoEntry
-            self.spaces[where], hour = tuple(fields[1:]), 0
-        elif kind == 'upload':
-            self.fresh(where, blob, data, hour)
-        elif kind == 'repin':
-            if (where, fields[1]) not in self.blobs:
-                raise NoEntry
-            self.blobs[where, fields[1]].at = max(self.blobs[where, fields[1]].at, hour)
-        elif kind == 'put':
-            name, root, _, whole, _ = fields
-            if blob:
-                if blob[0] != root:
-                    raise NoEntry
-                self.fresh(where, blob, data, hour)
-            elif (where, root) not in self.blobs:
-                raise NoEntry
-            else:
-                self.blobs[where, root].at = max(self.blobs[where, root].at, hour)
-            done = self.slots[name].done if name in self.slots else None
-            self.slots[name] = Slot(root, None, hour) if whole else Slot(done, root, hour)
-        elif kind == 'finalise':
-            if fields[0] not in self.slots or self.slots[fields[0]].pending != fields[1]:
-                raise NoEntry
-            self.slots[fields[0]] = Slot(fields[1], None, hour)
-        elif kind == 'delete':
-            if self.slots.pop(fields[0], None) is None:
-                raise NoEntry
-        else:
-            if fields[0] not in self.slots or self.slots[fields[0]].done is None:
-                raise NoEntry
-            self.slots[fields[0]].seen = hour
-        self.raise_hour(hour)
-        self.made(body)
+    def has_blob(self, space, named):
+        self.serves(space)
+        return self.blob(space, named).length
 
+    def get_blob(self, space, named):
+        self.serves(space)
+        return self.served(space, named)
 
-def opened(data):
-    """The store that a file holds; raises Unopened."""
-    store = Store(data[:20])
-    for at, body in item_bodies(data):
-        try:
-            store.follow(body)
-        except NoEntry:
-            raise Unopened('corrupt file 0 at %d' % at) from None
-    name = store.first_unsound()
-    if name is not None:
-        raise Unopened('unsound %s/%s/%s' % (name[0].decode(), name[1].decode(), name[2].hex()))
-    return store
+    def exist(self, space, hashes):
+        self.serves(space)
+        return sorted({named for named in hashes if (space, named) not in self.state.blobs})
 
 
 # ---- replies
@@ -710,63 +856,104 @@ def json_reply(status, close, **body):
     return reply(status, 'application/json', ('{' + pairs + '}').encode(), close)
 
 
+STATUS = {'unknown_namespace': 404, 'not_found': 404, 'not_finalised': 404, 'not_pending': 409, 'full': 507,
+          'history_full': 503, 'disk_failed': 503, 'broken': 503, 'damaged': 500}
+CLOSING = 'disk_failed', 'broken', 'damaged'
+
+
+def refusal(refused, close):
+    return json_reply(STATUS[refused.code], close or refused.code in CLOSING, error=refused.code, **refused.fields)
+
+
 def answer(store, hour, item, close):
+    """The reply to a request; raises Refused with the faults that close."""
     kind, rest = item[0], item[1:]
     try:
         if kind == 'put_blob':
-            return json_reply(200, close, identifier=store.put_blob(hour, *rest).hex())
+            return json_reply(200, close, identifier=store.upload(hour, *rest).hex())
         if kind == 'get_blob':
-            return reply(200, 'application/octet-stream', store.get_blob(hour, *rest), close, rest[1])
+            return reply(200, 'application/octet-stream', store.get_blob(*rest), close, rest[1])
         if kind == 'put_ref':
-            return json_reply(200, close, needs=[need.hex() for need in store.put_ref(hour, *rest)])
+            return json_reply(200, close, needs=[need.hex() for need in store.put(hour, *rest)])
         if kind == 'finalise':
             return json_reply(200, close, needs=[need.hex() for need in store.finalise(hour, *rest)])
         if kind == 'get_ref':
             done, data = store.get_ref(hour, *rest)
             return reply(200, 'application/x-ue-cb', data, close, done)
     except Refused as refused:
-        if refused.status == 500:
+        if refused.code in CLOSING:
             raise
-        return json_reply(refused.status, close, **refused.body)
+        return refusal(refused, close)
     if kind == 'mismatch':
         return json_reply(400, close, error='hash_mismatch', found=rest[1].hex(), named=rest[0].hex())
     return json_reply(400, close, at=rest[0], error='not_an_object')
 
 
-# ---- the runs: what is written, the exit status and the note, and what the file `journal-a` holds behind it
+# ---- the runs on disks: the exit status and the note. `put` takes what is written, and may raise Unwritten
 
-def no_store(data, fault):
-    return b'', 2, ('ddc: cannot open store: %s\n' % fault).encode(), data
+class Unwritten(Exception):
+    pass
 
 
-def init(data, space, ttl, pin):
-    """`ddc init DIR NS TTL PIN` where the file holds these bytes."""
+WRITE_FAILED, DISK_FAILED = (4, b'ddc: write failed\n'), (5, b'ddc: disk failed\n')
+
+
+def init(disks, put, space, ttl, pin):
+    """`ddc init DIR NS TTL PIN`."""
     try:
-        store = opened(data)
-    except Unopened as fault:
-        if str(fault) != 'not made':
-            return no_store(data, fault)
-        store = Store()
-    if space not in store.spaces and len(store.spaces) == MOST['spaces']:
-        return b'', 8, b'ddc: refused: full\n', store.file()
-    store.set_space(space, ttl, pin)
-    return b'namespace %s ttl %d pin %d\n' % (space, ttl, pin), 0, b'', store.file()
-
-
-def replay(data, hour, stream):
-    """`ddc replay DIR` for an input at an hour."""
-    try:
-        store = opened(data)
-    except Unopened as fault:
-        return no_store(data, fault)
-    items, at, end = cut(stream)
-    text = b''
-    for count, item in enumerate(items):
         try:
-            text += answer(store, hour, item, count == 9999)
-        except Refused as damaged:
-            return text + json_reply(500, True, **damaged.body), 7, b'ddc: damaged blobs 1\n', store.file()
-    if end == 'unread':
-        text += json_reply(400, True, error='unread')
+            store = load(disks)
+        except Unopened as fault:
+            if str(fault) != 'not made':
+                return 2, ('ddc: cannot open store: %s\n' % fault).encode()
+            store = create(disks)
+        store.set_space(space, ttl, pin)
+        put(b'namespace %s ttl %d pin %d\n' % (space, ttl, pin))
+        return 0, b''
+    except Failed:
+        return DISK_FAILED
+    except Refused as refused:
+        return DISK_FAILED if refused.code == 'disk_failed' else (8, ('ddc: refused: %s\n' % refused.code).encode())
+    except Unwritten:
+        return WRITE_FAILED
+
+
+def put_reply(put, text):
+    """A reply is written as its head and its body."""
+    head, body = text.split(b'\r\n\r\n', 1)
+    put(head + b'\r\n\r\n')
+    put(body)
+
+
+def replay(disks, put, hour, stream, fails=False):
+    """`ddc replay DIR` for an input at an hour; at its end a read fails, or none does."""
+    try:
+        store = load(disks)
+    except Unopened as fault:
+        return 2, ('ddc: cannot open store: %s\n' % fault).encode()
+    except Failed:
+        return DISK_FAILED
+    items, at, end = cut(stream)
+    try:
+        for count, item in enumerate(items):
+            try:
+                put_reply(put, answer(store, hour, item, count == 9999))
+            except Refused as refused:
+                return last_reply(put, refused)
+        if fails and end in ('closed', 'cut'):
+            return 4, b'ddc: read failed\n'
+        if end == 'unread':
+            put_reply(put, json_reply(400, True, error='unread'))
+    except Unwritten:
+        return WRITE_FAILED
     code = {'closed': None, 'cut': 'cut', 'unread': 'unread', 'spent': 'too_many_requests'}[end]
-    return text, 3 if code else 0, ('ddc: bad input at %d: %s\n' % (at, code) if code else '').encode(), store.file()
+    return (3, ('ddc: bad input at %d: %s\n' % (at, code)).encode()) if code else (0, b'')
+
+
+def last_reply(put, refused):
+    """A disk that failed ends the session whatever becomes of the reply."""
+    try:
+        put_reply(put, refusal(refused, True))
+    except Unwritten:
+        return WRITE_FAILED if refused.code == 'damaged' else DISK_FAILED
+    return (7, b'ddc: damaged blobs 1\n') if refused.code == 'damaged' else DISK_FAILED

@@ -66,7 +66,7 @@ fn store(
     let blob = Stored {
         hash: hash_of(number),
         len: 1,
-        start: 10,
+        start: number,
         links,
     };
     let entry = Entry::Upload {

@@ -8,7 +8,8 @@ use Rattle.std.proofs.lemmas.Cmp.{nat_cmp_total}
 use Rattle.std.specs.FinMap.{FinMap, find, put, insert, remove, from_entries, get-from_entries, get-insert, get-remove, same_map, nat_cmp-IsAntisymmetric}
 use Rattle.std.specs.FinMap.Entries.{find-put, find-where_key}
 use Rattle.ddc_model.specs.declared.rows.Extent.{Extent}
-use Rattle.blob_store.specs.Claims.{Claims, Apart, IsClaim, IsFree, AreApart, IsFirstRun, HasNoRun, with_extent, without_extent}
+use Rattle.ddc_model.specs.Extents.{Apart}
+use Rattle.blob_store.specs.Claims.{Claims, IsClaim, IsFree, AreApart, IsFirstRun, HasNoRun, with_extent, without_extent}
 use Rattle.blob_store.specs.inside.Runs.{AreInOrder, Misses, MissesAll, without, next_after, first_gap, end_of}
 use Rattle.blob_store.proofs.Runs.{is_same, is_more, some_is_not_none, same_some}
 use Rattle.blob_store.proofs.Edits.{found_within}

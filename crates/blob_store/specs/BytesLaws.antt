@@ -8,7 +8,7 @@ use Rattle.std.proofs.lemmas.List.FromFn.{length-map-range_with_len, get_or-map-
 use Rattle.std.proofs.lemmas.Grind.{same_number_lists}
 use Rattle.ddc_disk.specs.Disk.{Torn, overwritten}
 use Rattle.ddc_model.specs.declared.rows.Extent.{Extent}
-use Rattle.blob_store.specs.Claims.{HasUnit, Apart}
+use Rattle.ddc_model.specs.Extents.{HasUnit, Apart}
 use Rattle.blob_store.specs.Bytes.{first_byte, LieIn, bytes_from, HasBlobBytes, HasPlace, ChangesOnly}
 
 -- a list that has a file's bytes at each index

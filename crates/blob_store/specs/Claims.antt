@@ -4,6 +4,7 @@ use Rattle.std.specs.Ordering.{nat_cmp}
 use Rattle.std.specs.Coded.{Coded, code_by, coded×, coded_ℕ}
 use Rattle.std.specs.FinMap.{FinMap, code, empty, get, insert, remove}
 use Rattle.ddc_model.specs.declared.rows.Extent.{Extent}
+use Rattle.ddc_model.specs.Extents.{Apart}
 
 -- how many units the file has, and the claimed extents: by its first unit, how many units each has
 pub record Claims : Type 0 where
@@ -16,14 +17,6 @@ coded_claims = code_by (ℕ × FinMap nat_cmp ℕ) (coded× coded_ℕ (code code
 -- a file of which all units are free
 abbrev pub no_claims : ℕ → Claims
 no_claims units = record { units = units; extents = empty }
-
--- the extent has the unit
-abbrev pub HasUnit : Extent → ℕ → Type 0
-HasUnit extent unit = (extent.start ≤ unit) × (unit < extent.start + extent.units)
-
--- no unit is in both
-abbrev pub Apart : Extent → Extent → Type 0
-Apart a b = (unit : ℕ) → HasUnit a unit → ¬ HasUnit b unit
 
 -- the claimed extent that begins at this unit has so many units
 abbrev pub IsClaim : Claims → ℕ → ℕ → Type 0

@@ -1,7 +1,7 @@
 //! Which units of the blob file are claimed.
 
 ghost use Rattle.std.specs.Prelude.{◌≡◌, ◌≤◌, ◌<◌, ◌^◌, ◌↔◌, IsTrue, OnOk, OnErr, IfSome, IfNone};
-ghost use Rattle.ddc_model.specs.Entries.{units_of};
+ghost use Rattle.ddc_model.specs.Extents.{units_of};
 ghost use Rattle.ddc_model.specs.Limits.{most_bytes};
 ghost use Rattle.blob_store.specs.Claims.{no_claims, IsFree, IsClaimed, IsFirstRun, HasNoRun, AreApart, with_extent, without_extent};
 

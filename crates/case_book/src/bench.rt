@@ -23,6 +23,7 @@ pub struct Most {
     pub blobs: u64,
     pub refs: u64,
     pub links: u64,
+    pub units: u64,
     pub entries: u64,
     pub entry_links: u64,
 }
@@ -47,6 +48,7 @@ impl Most {
             blobs: limits.blobs,
             refs: limits.refs,
             links: limits.links,
+            units: limits.units,
             entries: limits.entries,
             entry_links: limits.entry_links,
         }
@@ -62,6 +64,7 @@ impl Most {
             blobs: self.blobs,
             refs: self.refs,
             links: self.links,
+            units: self.units.min(1 << 51),
             entries: self.entries,
             entry_links: self.entry_links,
             ..Limits::standard()
@@ -75,6 +78,7 @@ impl Most {
             "blobs" => self.blobs = number(word),
             "refs" => self.refs = number(word),
             "links" => self.links = number(word),
+            "units" => self.units = number(word),
             "entries" => self.entries = number(word),
             "entry_links" => self.entry_links = number(word),
             _ => {}

@@ -1,9 +1,10 @@
 //! The calls that change a store.
 
-use crate::texts::{push_hex, refused, text, with_hashes};
+use crate::texts::{push_packed, refused, text, with_hashes};
 use crate::words::{bytes_of, cut, name_of, small_number};
 use ddc_book::{Book, Held, StoreFault};
 use ddc_disk::MemDisk;
+use ddc_model::MOST_BLOB_BYTES;
 use ddc_names::{IoHash, Namespace, NoMemory, Rows};
 use ddc_state::Checked;
 use io_hash::Intake;
@@ -28,14 +29,14 @@ fn held(alloc: Global, answer: Result<Held, StoreFault>) -> Result<String, NoMem
         Ok(held) => {
             let mut line = with_hashes(alloc, "object", &[held.hash])?;
             line.push_str(" ")?;
-            push_hex(&mut line, held.bytes.as_slice())?;
+            push_packed(alloc, &mut line, held.bytes.as_slice())?;
             Ok(line)
         }
         Err(fault) => refused(alloc, fault),
     }
 }
 
-// The bytes of a hexadecimal text, checked.
+// The bytes that a word spells, checked.
 fn checked(alloc: Global, digits: &str) -> Result<Option<Checked>, NoMemory> {
     let bytes = bytes_of(alloc, digits)?;
     let mut intake = Intake::new(alloc, bytes.len() as u64);
@@ -69,7 +70,7 @@ pub fn upload(
         return text(alloc, "no namespace");
     };
     match checked(alloc, digits)? {
-        Some(blob) if blob.whole().bytes().len() <= 67_108_864 => {
+        Some(blob) if blob.whole().bytes().len() as u64 <= MOST_BLOB_BYTES => {
             done(alloc, book.upload(alloc, space, blob, hour))
         }
         _ => text(alloc, "no blob"),
@@ -88,7 +89,8 @@ pub fn put(
         return text(alloc, "no reference");
     };
     match checked(alloc, digits)? {
-        Some(object) if object.is_object() && object.whole().bytes().len() <= 67_108_864 => {
+        Some(object)
+            if object.is_object() && object.whole().bytes().len() as u64 <= MOST_BLOB_BYTES => {
             missing(alloc, book.put(alloc, name, object, hour))
         }
         _ => text(alloc, "no object"),

@@ -1,8 +1,8 @@
 //! The devices in memory, and how a store is made or opened on them.
 
 use crate::bench::{Bench, Most};
-use crate::reads::state;
-use crate::texts::{push_hex, text, unopened};
+use crate::reads::{damaged, state};
+use crate::texts::{text, unopened, with_bytes};
 use crate::words::{bytes_of, cut, number, small_number};
 use ddc_book::{Book, OpenFault, Step};
 use ddc_disk::{Devices, Disk, MemDisk};
@@ -142,48 +142,76 @@ fn bytes_in(alloc: Global, disk: &mut MemDisk) -> Result<Option<Vec<u8>>, NoMemo
     }
 }
 
-pub fn file(alloc: Global, bench: &mut Bench) -> Result<String, NoMemory> {
+// The device of this number.
+fn device<'a>(devices: &'a mut Devices<MemDisk>, file: &str) -> &'a mut MemDisk {
+    match file {
+        "0" => &mut devices.first,
+        "1" => &mut devices.second,
+        _ => &mut devices.blobs,
+    }
+}
+
+pub fn file(alloc: Global, bench: &mut Bench, rest: &str) -> Result<String, NoMemory> {
     let Some(devices) = &mut bench.devices else {
         return text(alloc, "no devices");
     };
-    let mut line = String::from_str(alloc, "file ")?;
-    match bytes_in(alloc, &mut devices.first)? {
-        Some(bytes) => push_hex(&mut line, &bytes)?,
-        None => line.push_str("failed")?,
+    match bytes_in(alloc, device(devices, rest))? {
+        Some(bytes) => with_bytes(alloc, "file", &bytes),
+        None => text(alloc, "file failed"),
     }
-    Ok(line)
 }
 
 pub fn write(alloc: Global, bench: &mut Bench, rest: &str) -> Result<String, NoMemory> {
     let Some(devices) = &mut bench.devices else {
         return text(alloc, "no devices");
     };
-    let (place, digits) = cut(rest);
-    let bytes = bytes_of(alloc, digits)?;
-    match devices.first.write_at(number(place), &bytes) {
+    let (file, rest) = cut(rest);
+    let (place, word) = cut(rest);
+    let bytes = bytes_of(alloc, word)?;
+    match device(devices, file).write_at(number(place), &bytes) {
         Ok(()) => text(alloc, "written"),
         Err(_) => text(alloc, "failed"),
     }
 }
 
-// What a store holds on this first file and empty others, or why it can't be opened.
-fn opened_on(alloc: Global, first: MemDisk, most: &Most) -> Result<String, NoMemory> {
-    let devices = Devices {
-        first,
-        second: MemDisk::new(alloc, Rows::new(alloc)),
-        blobs: MemDisk::new(alloc, Rows::new(alloc)),
+pub fn sync(alloc: Global, bench: &mut Bench, rest: &str) -> Result<String, NoMemory> {
+    let Some(devices) = &mut bench.devices else {
+        return text(alloc, "no devices");
     };
+    match device(devices, rest).sync() {
+        Ok(()) => text(alloc, "synced"),
+        Err(_) => text(alloc, "failed"),
+    }
+}
+
+// What a store holds on these devices, or why it can't be opened.
+fn opened_on(alloc: Global, devices: Devices<MemDisk>, most: &Most) -> Result<String, NoMemory> {
     match Book::load(alloc, devices, most.limits()) {
-        Ok(book) => state(alloc, &book),
+        Ok(book) => {
+            let mut book = book;
+            let line = state(alloc, &book)?;
+            let count = damaged(alloc, &mut book)?;
+            Ok(format!(in alloc; "{}, {count} damaged", line.as_str())?)
+        }
         Err((_devices, fault)) => unopened(alloc, fault),
     }
 }
 
+// What a crash leaves of a device after its last call.
+fn crashed(disk: &MemDisk, choice: &str) -> Result<MemDisk, NoMemory> {
+    disk.crashed(disk.calls(), number(choice))
+}
+
 pub fn crash(alloc: Global, bench: &mut Bench, rest: &str) -> Result<String, NoMemory> {
-    let (calls, choice) = cut(rest);
     let Some(devices) = &bench.devices else {
         return text(alloc, "no devices");
     };
-    let first = devices.first.crashed(number(calls), number(choice))?;
-    opened_on(alloc, first, &bench.most)
+    let (first, rest) = cut(rest);
+    let (second, blobs) = cut(rest);
+    let left = Devices {
+        first: crashed(&devices.first, first)?,
+        second: crashed(&devices.second, second)?,
+        blobs: crashed(&devices.blobs, blobs)?,
+    };
+    opened_on(alloc, left, &bench.most)
 }

@@ -8,18 +8,18 @@
 //! - `create`, `load`: what the store holds, or the fault and the devices' count of faults
 //! - `close`: the devices come back; how many calls were made of each
 //! - `parts`: the devices come back, with the steps
-//! - `file`: the bytes of the first file
-//! - `write PLACE HEX`: bytes are written to it
-//! - `crash CALLS CHOICE`: what a store holds once the first file crashed after so many calls
+//! - `file FILE`: the bytes of a file; of 16 and more bytes 0 in a row their number in brackets
+//! - `write FILE PLACE BYTES`, `sync FILE`: bytes are written to a file, and made sure of
+//! - `crash CHOICE CHOICE CHOICE`: what a store holds once the three files crashed, and how many of its blobs are damaged
 //!
 //! Of an open store, where KEY is the byte that a reference's key consists of:
 //!
-//! - `space SPACE TTL PIN`, `upload SPACE HEX`, `put SPACE KEY HEX`, `finalise SPACE KEY HASH`, `get SPACE KEY`,
+//! - `space SPACE TTL PIN`, `upload SPACE BYTES`, `put SPACE KEY BYTES`, `finalise SPACE KEY HASH`, `get SPACE KEY`,
 //!   `delete SPACE KEY`, `peek SPACE KEY`, `has SPACE HASH`, `open SPACE HASH`, `exist SPACE HASH..`, `verify SPACE HASH`
-//! - `pinned SPACE HASH`: the hour from which a blob is pinned
+//! - `row SPACE HASH`: a blob's length, the units where it stands, and the hour from which it is pinned
 //! - `state`: what the store holds, and the devices' count of faults
 //!
-//! A line that begins with `#` is printed as it stands. `checks/book` writes the cases.
+//! BYTES are pieces with `+` between them, each in hexadecimal, or a number, `*` and what stands so often. A line that begins with `#` is printed as it stands. `checks/book` writes the cases.
 #![tactic(auto)]
 
 mod bench;
@@ -48,8 +48,9 @@ fn answer(alloc: Global, bench: &mut Bench, line: &str) -> Result<String, NoMemo
         "load" => devices::load(alloc, bench),
         "close" => devices::close(alloc, bench),
         "parts" => devices::parts(alloc, bench),
-        "file" => devices::file(alloc, bench),
+        "file" => devices::file(alloc, bench, rest),
         "write" => devices::write(alloc, bench, rest),
+        "sync" => devices::sync(alloc, bench, rest),
         "crash" => devices::crash(alloc, bench, rest),
         "#" => text(alloc, line),
         _ => of_store(alloc, bench, call, rest),
@@ -74,7 +75,7 @@ fn of_store(alloc: Global, bench: &mut Bench, call: &str, rest: &str) -> Result<
         "open" => reads::open(alloc, book, rest),
         "exist" => reads::exist(alloc, book, rest),
         "verify" => reads::verify(alloc, book, rest),
-        "pinned" => reads::pinned(alloc, book, rest),
+        "row" => reads::row(alloc, book, rest),
         "state" => reads::state(alloc, book),
         _ => text(alloc, "no such call"),
     }

@@ -2,8 +2,9 @@
 
 use crate::texts::{refused, text, with_bytes, with_hashes};
 use crate::words::{blob_of, cut, name_of};
-use ddc_book::{Book, Opened};
+use ddc_book::{Book, Opened, Step};
 use ddc_disk::MemDisk;
+use ddc_model::{BlobName, Entry};
 use ddc_names::{IoHash, Namespace, NoMemory};
 use std::alloc::Global;
 
@@ -69,18 +70,27 @@ pub fn verify(alloc: Global, book: &mut Book<MemDisk>, rest: &str) -> Result<Str
     let Some(blob) = blob_of(rest) else {
         return text(alloc, "no blob");
     };
-    match book.verify(&blob.space, blob.hash) {
+    match book.verify(alloc, &blob.space, blob.hash) {
         Ok(()) => text(alloc, "done"),
         Err(fault) => refused(alloc, fault),
     }
 }
 
-pub fn pinned(alloc: Global, book: &Book<MemDisk>, rest: &str) -> Result<String, NoMemory> {
+/// A blob's length, where it stands and from which hour it is pinned.
+pub fn row(alloc: Global, book: &Book<MemDisk>, rest: &str) -> Result<String, NoMemory> {
     let Some(blob) = blob_of(rest) else {
         return text(alloc, "no blob");
     };
     match book.index().blob(&blob.space, &blob.hash) {
-        Some(row) => Ok(format!(in alloc; "from {}", row.at)?),
+        Some(row) => counted(
+            alloc,
+            &[
+                (row.len, " bytes in "),
+                (row.extent.units as u64, " units from "),
+                (row.extent.start, " on, hour "),
+                (row.at as u64, ""),
+            ],
+        ),
         None => text(alloc, "not found"),
     }
 }
@@ -100,6 +110,48 @@ pub fn state(alloc: Global, book: &Book<MemDisk>) -> Result<String, NoMemory> {
             (book.faults(), " faults"),
         ],
     )
+}
+
+// The blob that a step has added.
+fn blob_added(step: &Step) -> Option<BlobName> {
+    match step {
+        Step::Change(Entry::Upload { space, blob, .. }) => Some(BlobName {
+            space: *space,
+            hash: blob.hash,
+        }),
+        Step::Change(
+            Entry::Put {
+                name,
+                fresh: Some(blob),
+                ..
+            },
+        ) => Some(BlobName {
+            space: name.get().space,
+            hash: blob.hash,
+        }),
+        _ => None,
+    }
+}
+
+fn blobs_added(alloc: Global, steps: &[Step]) -> Result<Vec<BlobName>, NoMemory> {
+    let mut names = Vec::new(alloc);
+    for step in steps {
+        if let Some(name) = blob_added(step) {
+            names.push(name)?;
+        }
+    }
+    Ok(names)
+}
+
+/// How many blobs of a store are damaged.
+pub fn damaged(alloc: Global, book: &mut Book<MemDisk>) -> Result<u64, NoMemory> {
+    let mut count = 0_u64;
+    for blob in blobs_added(alloc, book.steps())? {
+        if book.verify(alloc, &blob.space, blob.hash).is_err() {
+            count = count.saturating_add(1);
+        }
+    }
+    Ok(count)
 }
 
 // Numbers, each with the words after it.

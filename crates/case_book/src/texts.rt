@@ -21,11 +21,36 @@ fn digit(value: u8) -> char {
     char::from_digit(value as u32 % 16, 16).unwrap_or('0')
 }
 
-/// A word, and bytes in hexadecimal.
+// Bytes 0 in a row: their number in brackets, where they are 16 or more.
+fn push_zeros(alloc: Global, text: &mut String, count: u64) -> Result<(), NoMemory> {
+    if count > 15 {
+        return Ok(text.push_str(format!(in alloc; "({count})")?.as_str())?);
+    }
+    for _ in 0..count {
+        text.push_str("00")?;
+    }
+    Ok(())
+}
+
+/// Writes bytes in hexadecimal, and of 16 and more bytes 0 in a row their number in brackets.
+pub fn push_packed(alloc: Global, text: &mut String, bytes: &[u8]) -> Result<(), NoMemory> {
+    let mut zeros = 0_u64;
+    for byte in bytes {
+        if *byte == 0 {
+            zeros = zeros.saturating_add(1);
+        } else {
+            push_zeros(alloc, text, zeros)?;
+            push_hex(text, &[*byte])?;
+            zeros = 0;
+        }
+    }
+    push_zeros(alloc, text, zeros)
+}
+
+/// A word, and bytes.
 pub fn with_bytes(alloc: Global, word: &str, bytes: &[u8]) -> Result<String, NoMemory> {
-    let mut line = String::from_str(alloc, word)?;
-    line.push_str(" ")?;
-    push_hex(&mut line, bytes)?;
+    let mut line = format!(in alloc; "{word} ")?;
+    push_packed(alloc, &mut line, bytes)?;
     Ok(line)
 }
 
@@ -82,6 +107,7 @@ pub fn unopened(alloc: Global, fault: OpenFault) -> Result<String, NoMemory> {
 
 fn unsound(alloc: Global, name: &RefName) -> Result<String, NoMemory> {
     let bucket = name.spot.bucket.as_str();
-    let front = format!(in alloc; "unsound {} {bucket}", name.space.as_str())?;
-    with_bytes(alloc, front.as_str(), &name.spot.key.0)
+    let mut line = format!(in alloc; "unsound {} {bucket} ", name.space.as_str())?;
+    push_hex(&mut line, &name.spot.key.0)?;
+    Ok(line)
 }

@@ -22,9 +22,28 @@ pub fn small_number(word: &str) -> u32 {
     word.parse::<u32>().unwrap_or(0)
 }
 
-/// The bytes of a hexadecimal text; none of another text.
-pub fn bytes_of(alloc: Global, digits: &str) -> Result<Vec<u8>, NoMemory> {
+/// The bytes that a word spells: pieces with `+` between them, each in hexadecimal, or a number, `*` and what stands so
+/// often.
+pub fn bytes_of(alloc: Global, word: &str) -> Result<Vec<u8>, NoMemory> {
     let mut bytes = Vec::new(alloc);
+    for piece in word.split('+') {
+        match piece.split_once('*') {
+            Some((count, digits)) => push_times(&mut bytes, small_number(count), digits)?,
+            None => push_digits(&mut bytes, piece)?,
+        }
+    }
+    Ok(bytes)
+}
+
+fn push_times(bytes: &mut Vec<u8>, count: u32, digits: &str) -> Result<(), NoMemory> {
+    for _ in 0..count {
+        push_digits(bytes, digits)?;
+    }
+    Ok(())
+}
+
+// The bytes of a hexadecimal text; none of another text.
+fn push_digits(bytes: &mut Vec<u8>, digits: &str) -> Result<(), NoMemory> {
     let mut high = None;
     for byte in digits.bytes() {
         let Some(value) = (byte as char).to_digit(16) else {
@@ -38,7 +57,7 @@ pub fn bytes_of(alloc: Global, digits: &str) -> Result<Vec<u8>, NoMemory> {
             }
         }
     }
-    Ok(bytes)
+    Ok(())
 }
 
 /// The blob whose namespace and hash a line names.

@@ -6,7 +6,7 @@
 //! | `new` | devices that hold nothing and don't fail |
 //! | `fails FILE N..` | an empty device in the place of FILE (`first`, `second` or `blobs`), whose calls of these numbers fail |
 //! | `write FILE AT HEX` | writes bytes to a device |
-//! | `crash FILE CALLS CHOICE` | what a crash after so many calls leaves of a device |
+//! | `crash CHOICE CHOICE CHOICE` | what a crash leaves of the three devices |
 //! | `hour N` | the hour that the clock tells |
 //! | `pieces N` | the source gives at most N bytes a call, or as many as there is room for where N is 0 |
 //! | `reads N..`, `puts N..`, `notes N..` | the calls of the source, of the sink and of the notes that fail in the next run |
@@ -17,7 +17,7 @@
 //! | `run WORD..` | runs the command of these words: prints its status, what it wrote and what it noted |
 //! | `fronts WORD..` | runs it on each front of the input, from the shortest on; prints the length from which on each outcome comes |
 //! | `places WORD..` | the places that the words name |
-//! | `file FILE` | what a device holds; the device is called for it |
+//! | `file FILE` | what a device holds, of 16 and more bytes 0 in a row their number in brackets; the device is called for it |
 //! | `calls` | how often each device was called |
 //!
 //! Any other line is printed as it stands. `checks/commands` writes the cases, with what the plain model says of each.

@@ -1,6 +1,6 @@
 //! What the lines set.
 
-use crate::texts::{bytes_of, numbers_of, parts_of, push_hex};
+use crate::texts::{bytes_of, numbers_of, parts_of, push_packed};
 use ddc_disk::{Devices, Disk, MemDisk};
 use ddc_names::{NoMemory, Rows};
 use std::alloc::Global;
@@ -165,21 +165,28 @@ fn write(alloc: Global, devices: &mut Devices<MemDisk>, rest: &str) -> Result<bo
     }
 }
 
+// What a crash leaves of a device after its last call.
+fn crashed(disk: &MemDisk, choice: &str) -> Result<MemDisk, NoMemory> {
+    disk.crashed(disk.calls(), choice.parse::<u64>().unwrap_or(0))
+}
+
 fn crash(devices: &mut Devices<MemDisk>, rest: &str) -> Result<bool, NoMemory> {
-    let (name, rest) = parts_of(rest);
-    let (calls, choice) = parts_of(rest);
-    let disk = device(devices, name);
-    let calls = calls.parse::<u64>().unwrap_or(0);
-    *disk = disk.crashed(calls, choice.parse::<u64>().unwrap_or(0))?;
+    let (first, rest) = parts_of(rest);
+    let (second, blobs) = parts_of(rest);
+    *devices = Devices {
+        first: crashed(&devices.first, first)?,
+        second: crashed(&devices.second, second)?,
+        blobs: crashed(&devices.blobs, blobs)?,
+    };
     Ok(true)
 }
 
-/// What a device holds, in hexadecimal.
+/// What a device holds.
 pub fn file_line(alloc: Global, stage: &mut Stage, name: &str) -> Result<String, NoMemory> {
     let disk = device(&mut stage.devices, name);
     let mut text = format!(in alloc; "{name} ")?;
     match held(alloc, disk)? {
-        Some(bytes) => push_hex(&mut text, &bytes)?,
+        Some(bytes) => push_packed(alloc, &mut text, &bytes)?,
         None => text.push_str("failed")?,
     }
     text.push_str("\n")?;

@@ -65,6 +65,32 @@ pub fn push_hex(text: &mut String, bytes: &[u8]) -> Result<(), NoMemory> {
     Ok(())
 }
 
+// Bytes 0 in a row: their number in brackets, where they are 16 or more.
+fn push_zeros(alloc: Global, text: &mut String, count: u64) -> Result<(), NoMemory> {
+    if count > 15 {
+        return Ok(text.push_str(format!(in alloc; "({count})")?.as_str())?);
+    }
+    for _ in 0..count {
+        text.push_str("00")?;
+    }
+    Ok(())
+}
+
+/// Writes bytes in hexadecimal, and of 16 and more bytes 0 in a row their number in brackets.
+pub fn push_packed(alloc: Global, text: &mut String, bytes: &[u8]) -> Result<(), NoMemory> {
+    let mut zeros = 0_u64;
+    for byte in bytes {
+        if *byte == 0 {
+            zeros = zeros.saturating_add(1);
+        } else {
+            push_zeros(alloc, text, zeros)?;
+            push_hex(text, &[*byte])?;
+            zeros = 0;
+        }
+    }
+    push_zeros(alloc, text, zeros)
+}
+
 // A byte that is no printable ASCII as `\xHH`.
 fn push_byte(text: &mut String, byte: u8) -> Result<(), NoMemory> {
     match byte {

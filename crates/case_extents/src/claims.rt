@@ -2,13 +2,12 @@
 
 use crate::words::{first_extent, number};
 use blob_store::BlobStore;
+use ddc_model::MOST_BLOB_BYTES;
 use ddc_names::NoMemory;
 use std::alloc::Global;
 
-// The most units of a file, and the most bytes of a blob.
+// The most units of a file.
 const MOST_UNITS: u64 = 2_251_799_813_685_248;
-
-const MOST_BYTES: u64 = 67_108_864;
 
 // A file of so many units.
 pub fn new_store(alloc: Global, words: &str) -> BlobStore {
@@ -18,7 +17,7 @@ pub fn new_store(alloc: Global, words: &str) -> BlobStore {
 // The first free run, or `none`.
 pub fn find_line(alloc: Global, store: &BlobStore, words: &str) -> Result<String, NoMemory> {
     let len = number(Some(words));
-    if len > MOST_BYTES {
+    if len > MOST_BLOB_BYTES {
         return Ok(String::from_str(alloc, "too long")?);
     }
     match store.find_free(len) {

@@ -1,246 +1,280 @@
 -- What a book's type keeps while an entry is made.
-use Rattle.std.specs.Prelude.{◌≡◌, ◌⊎◌, ℕ, ◌≤◌, Bool, true, IsTrue, List, [], ◌∷◌, ◌++◌, length, take, Option, None, Some, Ok, IfSome, refl}
+use Rattle.std.specs.Prelude.{◌≡◌, ◌⊎◌, ℕ, ◌+◌, ◌^◌, ◌≤◌, Bool, true, false, IsTrue, List, [], ◌∷◌, ◌++◌, length, drop, Option, None, Some, Ok, Err, IfSome, option_map, refl}
 use Rattle.std.proofs.Common.{inl, inr, ⊎_elim, sym, ◌∙◌, ap, subst, arith, append_assoc, length-append}
 use Rattle.std.proofs.lemmas.Bool.{cases_lt}
-use Rattle.std.proofs.lemmas.List.{take-append-le, take_at}
-use Rattle.std.specs.FinMap.{get}
-use Rattle.ref_store.specs.declared.slot.Slot.{Slot}
-use Rattle.ddc_names.specs.declared.hash.IoHash.{IoHash}
-use Rattle.ddc_names.specs.declared.reference.RefName.{RefName}
+use Rattle.std.proofs.Math.Seq.{drop-append_seam}
+use Rattle.std.proofs.lemmas.List.{append-nil}
+use Rattle.std.specs.FinMap.{FinMap}
 use Rattle.ddc_names.specs.Causes.{Rose}
-use Rattle.ddc_disk.specs.Disk.{Timeline, Meaning, EachImage, EachSince, Rests}
+use Rattle.ddc_disk.specs.Disk.{Timeline, Meaning, EachSince, Rests, IsSure}
 use Rattle.ddc_disk.specs.Images.{Images, devices_line, devices_faults}
-use Rattle.ddc_disk.specs.Since.{started, weaker}
+use Rattle.ddc_disk.specs.Since.{weaker}
 use Rattle.ddc_disk.specs.Lending as lending
 use Rattle.ddc_disk.specs.declared.devices.Devices.{Devices}
-use Rattle.ddc_journal.specs.Journal.{IsReady, LoadsEither}
+use Rattle.ddc_journal.specs.Pairs.{PairView, IsPairReady}
 use Rattle.ddc_entry.specs.Spelling.{spelling, IsEntry}
 use Rattle.ddc_model.specs.declared.rows.Limits.{Limits}
-use Rattle.ddc_model.specs.declared.entry.Stored.{Stored}
 use Rattle.ddc_model.specs.declared.entry.Entry.{Entry}
-use Rattle.ddc_model.specs.declared.entry.Entry.TheVariants.{Space, Upload, Repin, Put, Finalise, Delete, Touch}
 use Rattle.ddc_model.specs.declared.entry.Step.{Step}
-use Rattle.ddc_model.specs.declared.entry.Step.TheVariants.{Loaded, Change, Broke}
+use Rattle.ddc_model.specs.declared.entry.Step.TheVariants.{Change, Broke}
+use Rattle.ddc_model.specs.declared.fault.StoreFault.TheVariants.{DiskFailed}
+use Rattle.ddc_model.specs.Keys.{blob_cmp}
 use Rattle.ddc_model.specs.State.{State, empty_state}
-use Rattle.ddc_model.specs.Entries.{after, with_put_root, with_touch}
+use Rattle.ddc_model.specs.Entries.{after}
 use Rattle.ddc_model.specs.Counts.{fresh_of}
-use Rattle.ddc_model.specs.Sound.{Cache, empty_cache, IsSound}
-use Rattle.ddc_model.specs.Commands.{changed}
-use Rattle.ddc_model.specs.History.{after_steps, broken_by, AreLawful, IsLawful}
-use Rattle.ddc_model.proofs.Bytes.{bytes_kept}
-use Rattle.ddc_opening.specs.Opening.{IsBody, OpensAs}
-use Rattle.ddc_opening.specs.Tables.{bytes_or_none, Brings}
-use Rattle.ddc_opening.proofs.Bodies.{brought, leads_more}
-use Rattle.ddc_opening.proofs.Steps.{after_more, broken_more}
-use Rattle.ddc_book.specs.View.{BookView, limits_of, book_line, book_faults, IsBook, IsHistory, IsHonest, IsInJournal, OpensSome}
-use Rattle.ddc_book.specs.Calls.{Breaks, GoesOn}
-use Rattle.ddc_book.specs.inside.Making.{IsFit, IsServing}
-use Rattle.ddc_book.proofs.Steps.{unbroken_after, lawful_more}
+use Rattle.ddc_model.specs.Sound.{Cache, IsSound}
+use Rattle.ddc_model.specs.Commands.{changed, kept}
+use Rattle.ddc_model.specs.History.{after_steps, broken_by, AreLawful}
+use Rattle.ddc_opening.specs.Opening.{version, AreLegal, after_all, AllReach, OpensSound}
+use Rattle.ddc_book.specs.View.{BookView, told_cache, told_bytes, opened_count, sure_count, OpensFrom, Reaches, IsHonest, IsHistory, IsStored, IsBook}
+use Rattle.ddc_book.specs.Calls.{OpensWhole, change_in, next_cache, Commits, GoesOn}
+use Rattle.ddc_book.specs.inside.Making.{bytes_or_none, place_of, with_bytes, Between, IsFit}
+use Rattle.ddc_book.proofs.Limits.{after_limits}
+use Rattle.ddc_book.proofs.Steps.{steps_more, broken_more, sure_more, sure_unwritten}
+use Rattle.ddc_book.proofs.Written.{written_gives, written_reaches}
+use Rattle.ddc_book.proofs.Meanwhile as meanwhile
+use Rattle.ddc_book.proofs.Stored.{seen, sound_stored, same_cache, reach_stored, reaches_stored, from_fewer, from_more, from_all}
+use Rattle.ddc_book.proofs.Still.{count_within, count_still, history_more}
 
--- ---- limits stay
+module _ {D : Type 0} (tells : Bool) (meaning : D → Meaning) (rests : (d : D) → Rests (meaning d).line) (devices : Devices D) (s : State) (steps : List Step) (opened reads : ℕ) (pair : PairView)
+    (book : IsBook tells meaning (seen tells meaning devices s steps opened reads) pair) (unbroken : broken_by steps ≡ None)
+    (entry : Entry) (blob : Option (List ℕ)) (fit : IsFit (told_cache tells meaning devices s) entry blob) (body : List ℕ) (spellable : IsEntry entry) (is : body ≡ spelling entry)
+    (after_devices : Devices D) (later : devices_faults meaning devices ≤ devices_faults meaning after_devices)
+    (past : EachSince (devices_line meaning devices) (devices_line meaning after_devices) (λ _. Unit {0}))
+    (any_moment : (bodies : List (List ℕ)) (file : List ℕ) → pair.version ≡ version → IsPairReady meaning devices pair bodies → IsSure (meaning devices.blobs) file
+    → EachSince (devices_line meaning devices) (devices_line meaning after_devices) (Between bodies body file (place_of (fresh_of entry)) (bytes_or_none blob))) where
+  abbrev pub old : BookView D
+  old = seen tells meaning devices s steps opened reads
 
-touch_limits : (s : State) (name : RefName) (hour : ℕ) (slot : Option Slot) → (with_touch s name hour slot).limits ≡ s.limits
-touch_limits s name hour None = refl
-touch_limits s name hour (Some slot) = refl
-
-root_limits : (s : State) (space : List ℕ) (root : IoHash) (fresh : Option Stored) (hour : ℕ) → (with_put_root s space root fresh hour).limits ≡ s.limits
-root_limits s space root None hour = refl
-root_limits s space root (Some blob) hour = refl
-
-pub after_limits : (s : State) (entry : Entry) → (after s entry).limits ≡ s.limits
-after_limits s (Space space ttl pin) = refl
-after_limits s (Upload space blob hour) = refl
-after_limits s (Repin space hash hour) = refl
-after_limits s (Put name root fresh whole hour) = root_limits s name.space root fresh hour
-after_limits s (Finalise name hash hour) = refl
-after_limits s (Delete name hour) = refl
-after_limits s (Touch name hour) = touch_limits s name hour (get s.slots name)
-
-sized : (fresh : Option Stored) (blob : Option (List ℕ)) → Brings fresh blob → IfSome fresh (λ stored. stored.len ≡ length (bytes_or_none blob))
-sized None blob brings = tt
-sized (Some stored) (Some bytes) brings = brings
-sized (Some stored) None brings = absurd brings
-
-pub body_is : (entry : Entry) (blob : Option (List ℕ)) (body : List ℕ) → IsEntry entry → Brings (fresh_of entry) blob → body ≡ spelling entry ++ bytes_or_none blob → IsBody body entry (bytes_or_none blob)
-body_is entry blob body spellable brings is = record { spellable = spellable; split = is; sized = brought (fresh_of entry) blob brings }
-
--- ---- nothing is made
-
-module _ {D : Type 0} (tells : Bool) (meaning : D → Meaning) (book : BookView D) (end : ℕ) (rests : (device : D) → Rests (meaning device).line) (kept : IsBook tells meaning book end) where
-  -- each crash now opens to its state
-  pub opens_now : IsTrue tells → broken_by book.steps ≡ None → EachImage (book_line meaning book) (λ im. OpensAs (limits_of book) im book.cache)
-  opens_now told none im now =
-      let first = meaning book.devices.first in
-      let second = meaning book.devices.second in
-      let blobs = meaning book.devices.blobs in
-      let stored = kept.now told none in
-      let now_first = (lending.each_now first second blobs (rests book.devices.first) (rests book.devices.second) (rests book.devices.blobs) im now).0 in
-      record { holds = record { generation = stored.generation; bodies = stored.bodies; loads = stored.ready.each im.first now_first; leads = stored.leads }; whole = kept.whole }
-
-  pub stays : GoesOn tells meaning book book
-  stays =
-      let first = meaning book.devices.first in
-      let second = meaning book.devices.second in
-      let blobs = meaning book.devices.blobs in
-      let still : Rests (book_line meaning book) = lending.rests first second blobs (rests book.devices.first) (rests book.devices.second) (rests book.devices.blobs) in
-      record {
-        opened = refl;
-        later = omega arith;
-        past = started (book_line meaning book) (λ _. Unit {0}) still (λ im now. tt);
-        crash = λ told none. started (book_line meaning book) _ still (λ im now. inl (opens_now told none im now));
-      }
-
-pub serves : {D : Type 0} (tells : Bool) (meaning : D → Meaning) (rests : (device : D) → Rests (meaning device).line) {seen book : BookView D} → seen ≡ book → (end : ℕ) → IsBook tells meaning seen end → broken_by book.steps ≡ None → IsServing tells meaning book
-serves {D} tells meaning rests {seen} {book} same end kept unbroken = subst (IsServing tells meaning) same
-    (record { unbroken = ap (λ (b : BookView D). broken_by b.steps) same ∙ unbroken; whole = kept.whole; has_bytes = kept.has_bytes; stays = stays tells meaning seen end rests kept })
-
--- ---- an entry is made
-
-module _ {D : Type 0} (tells : Bool) (meaning : D → Meaning) (old : BookView D) (end : ℕ) (entry : Entry) (blob : Option (List ℕ)) (devices : Devices D) (body : List ℕ)
-    (book : IsBook tells meaning old end) (unbroken : broken_by old.steps ≡ None) (fit : IsFit old.cache entry blob) (is : IsBody body entry (bytes_or_none blob))
-    (later : book_faults meaning old ≤ devices_faults meaning devices)
-    (past : EachSince (book_line meaning old) (devices_line meaning devices) (λ _. Unit {0}))
-    (any_moment : (generation : ℕ) (bodies : List (List ℕ)) → IsReady (meaning old.devices.first) generation bodies end
-    → EachSince (book_line meaning old) (devices_line meaning devices) (λ im. LoadsEither generation bodies body im.first)) where
   abbrev bytes : List ℕ
   bytes = bytes_or_none blob
 
+  abbrev cache : Cache
+  cache = told_cache tells meaning devices s
+
   abbrev next : Cache
-  next = changed old.cache bytes (Some entry)
+  next = changed (told_cache tells meaning devices s) bytes (Some entry)
 
   abbrev limits : Limits
-  limits = limits_of old
+  limits = s.limits
 
   abbrev start : State
-  start = empty_state limits
+  start = empty_state s.limits
 
-  abbrev new_line : Timeline Images
-  new_line = devices_line meaning devices
+  abbrev line : Timeline Images
+  line = devices_line meaning devices
+
+  abbrev next_line : Timeline Images
+  next_line = devices_line meaning after_devices
 
   abbrev Either : Images → Type 0
-  Either im = OpensAs limits im old.cache ⊎ OpensAs limits im next
+  Either im = OpensWhole limits im cache ⊎ OpensWhole limits im next
 
-  -- the book with these steps after the old ones
-  abbrev pub with_steps : List Step → BookView D
-  with_steps tail = record { devices = devices; cache = next; steps = old.steps ++ Change entry ∷ tail; opened = old.opened }
+  same_limits : (after s entry).limits ≡ s.limits
+  same_limits = after_limits s entry
 
-  same_limits : next.index.limits ≡ limits
-  same_limits = after_limits old.cache.index entry
+  -- ---- a crash meanwhile
 
-  -- a crash meanwhile
-  pub run : IsTrue tells → EachSince (book_line meaning old) new_line Either
-  run told =
-      let stored = book.now told unbroken in
-      weaker (book_line meaning old) new_line _ Either (any_moment stored.generation stored.bodies stored.ready) (λ im loads.
-      ⊎_elim (λ before. inl (record { holds = record { generation = stored.generation; bodies = stored.bodies; loads = before; leads = stored.leads }; whole = book.whole }))
-      (λ after. inr (record { holds = record { generation = stored.generation; bodies = stored.bodies ++ body ∷ []; loads = after; leads = leads_more (empty_cache limits) old.cache stored.bodies body entry bytes stored.leads is fit.legal }; whole = fit.whole })) loads)
+  pub run : IsTrue tells → Reaches meaning old → EachSince line next_line Either
+  run tell reaches =
+      let stored = book.now tell unbroken in
+      let ready = stored.ready in
+      let told = same_cache tells meaning rests devices pair s stored tell in
+      let P : Cache → Images → Type 0 = λ c im. OpensWhole s.limits im c ⊎ OpensWhole s.limits im (changed c bytes (Some entry)) in
+      weaker line next_line _ Either (any_moment ready.bodies ready.file ready.version_is ready.journal ready.blobs_sure) (λ im between.
+      subst (λ (c : Cache). P c im) (sym told)
+      (meanwhile.opens_either s stored.all ready.bodies ready.spelled stored.are_legal stored.leads entry blob body book.low fit.legal fit.brings spellable is ready.file book.whole fit.whole fit.starts (reach_stored tells meaning rests devices pair s stored reaches) im between))
 
-  was_honest : IsHonest tells new_line limits old.opened → IsHonest tells (book_line meaning old) limits old.opened
-  was_honest honest = record { told = honest.told; sound = λ im left. honest.sound im (past.keeps old.opened im book.time left) }
+  was_honest : IsHonest tells next_line limits opened → IsHonest tells line limits opened
+  was_honest honest = record { told = honest.told; sound = λ im left. honest.sound im (past.keeps opened im book.time left) }
+
+  -- the same from limits that are those of the new state
+  honest_here : IsHonest tells next_line (after s entry).limits opened → IsHonest tells next_line limits opened
+  honest_here honest = subst (λ (l : Limits). IsHonest tells next_line l opened) same_limits honest
+
+  -- it opens to a sound state before or after the entry
+  sound_either : IsHonest tells line limits opened → (im : Images) → Either im → OpensSound limits im cache ⊎ OpensSound limits im next
+  sound_either was im (inl before) = inl (record { opens = before.opens; sound = (book.sound was unbroken).0; reach = before.reach })
+  sound_either was im (inr after) = inr (record { opens = after.opens; sound = fit.sound (book.sound was unbroken).0; reach = after.reach })
+
+  -- ---- the steps
 
   module _ (tail : List Step) where
-    abbrev steps : List Step
-    steps = old.steps ++ Change entry ∷ tail
+    abbrev made : List Step
+    made = steps ++ Change entry ∷ tail
 
-    still_some : (im : Images) → OpensSome limits old.steps im → OpensSome limits steps im
-    still_some im some = record {
-      n = some.n;
-      within = omega (arith, some.within, length-append old.steps (Change entry ∷ tail));
-      state = some.state;
-      opens = some.opens;
-      index = some.index ∙ ap (after_steps start) (sym (take-append-le some.n old.steps (Change entry ∷ tail) some.within));
-      sound = some.sound;
-    }
+    leaves_next : after s entry ≡ after_steps start (steps ++ Change entry ∷ [])
+    leaves_next = ap (λ (t : State). after t entry) book.history.leaves ∙ sym (steps_more start steps (Change entry ∷ []))
 
-    leaves_next : next.index ≡ after_steps start (old.steps ++ Change entry ∷ [])
-    leaves_next = ap (λ (s : State). after s entry) book.history.leaves ∙ sym (after_more start old.steps (Change entry ∷ []))
+    -- at least the steps before are kept
+    either_from : (im : Images) → OpensSound limits im cache ⊎ OpensSound limits im next → OpensFrom (length steps) limits made im
+    either_from im (inl before) = from_all limits steps im (Change entry ∷ tail) cache before book.history.leaves
+    either_from im (inr after) =
+        subst (λ (l : List Step). OpensFrom (length steps) limits l im) (append_assoc steps (Change entry ∷ []) tail)
+        (from_fewer limits ((steps ++ Change entry ∷ []) ++ tail) im (length steps) (length (steps ++ Change entry ∷ [])) (omega (arith, length-append steps (Change entry ∷ [])))
+        (from_all limits (steps ++ Change entry ∷ []) im tail next after leaves_next))
 
-    one_more : take (length (old.steps ++ Change entry ∷ [])) steps ≡ old.steps ++ Change entry ∷ []
-    one_more = ap (take (length (old.steps ++ Change entry ∷ []))) (sym (append_assoc old.steps (Change entry ∷ []) tail)) ∙ take_at (old.steps ++ Change entry ∷ []) tail (length (old.steps ++ Change entry ∷ [])) refl
-
-    either_some : IsSound old.cache → (im : Images) → Either im → OpensSome limits steps im
-    either_some sound im (inl before) = record {
-      n = length old.steps;
-      within = omega (arith, length-append old.steps (Change entry ∷ tail));
-      state = old.cache;
-      opens = before;
-      index = book.history.leaves ∙ ap (after_steps start) (sym (take_at old.steps (Change entry ∷ tail) (length old.steps) refl));
-      sound = sound;
-    }
-    either_some sound im (inr after) = record {
-      n = length (old.steps ++ Change entry ∷ []);
-      within = omega (arith, length-append old.steps (Change entry ∷ tail), length-append old.steps (Change entry ∷ []));
-      state = next;
-      opens = after;
-      index = leaves_next ∙ ap (after_steps start) (sym one_more);
-      sound = fit.sound sound;
-    }
-
-    still_since : IsHonest tells new_line limits old.opened → (t : ℕ) (im : Images) → old.opened ≤ t → new_line.left t im → OpensSome limits steps im
-    still_since honest t im le left =
+    since_then : IsHonest tells next_line limits opened → (t : ℕ) (im : Images) → line.moment ≤ t → next_line.left t im → OpensFrom (length steps) limits made im
+    since_then honest t im le left =
         let was = was_honest honest in
-        ⊎_elim (λ early. still_some im (book.since was t im le (past.past t im (omega (arith, early)) left)))
-        (λ late. either_some (book.sound was) im ((run honest.told).each t im late left)) (cases_lt t (book_line meaning old).moment)
+        either_from im (sound_either was im ((run honest.told (book.sound was unbroken).1).each t im le left))
 
-    module _ (still : (s : State) → after_steps s tail ≡ s) (tail_lawful : (faults : ℕ) (s : State) → faults ≤ book_faults meaning old → AreLawful faults s tail)
-        (tail_broken : IfSome (broken_by tail) (λ now. now ≤ devices_faults meaning devices)) where
-      history : IsHistory limits steps next.index (devices_faults meaning devices)
-      history =
-          let h = book.history in
-          let since : old.cache.index ≡ after_steps (after_steps start h.opened) h.made = h.leaves ∙ ap (after_steps start) h.split ∙ after_more start h.opened (Loaded limits h.faults ∷ h.made) in
-          let none : broken_by h.made ≡ None = unbroken_after h.opened limits h.faults h.made (ap broken_by (sym h.split) ∙ unbroken) in
-          record {
-            opened = h.opened;
-            faults = h.faults;
-            made = h.made ++ Change entry ∷ tail;
-            split = ap (λ (l : List Step). l ++ Change entry ∷ tail) h.split ∙ append_assoc h.opened (Loaded limits h.faults ∷ h.made) (Change entry ∷ tail);
-            lawful = lawful_more h.faults (after_steps start h.opened) h.made (Change entry ∷ tail) none h.lawful
-                (subst (λ (s : State). IsLawful s entry) since fit.lawful, tail_lawful h.faults _ h.later);
-            leaves = ap (λ (s : State). after s entry) h.leaves ∙ sym (after_more start old.steps (Change entry ∷ tail) ∙ still _);
-            later = omega (arith, h.later, later);
-            broken = subst (λ (o : Option ℕ). IfSome o (λ now. now ≤ devices_faults meaning devices)) (sym (broken_more old.steps (Change entry ∷ tail) unbroken)) tail_broken;
-          }
+    since_made : IsHonest tells next_line limits opened → (t : ℕ) (im : Images) → opened ≤ t → next_line.left t im → OpensFrom (opened_count made) limits made im
+    since_made honest t im le left =
+        subst (λ (n : ℕ). OpensFrom n limits made im) (sym (count_still limits steps s (devices_faults meaning devices) book.history (Change entry ∷ tail)))
+        (⊎_elim (λ early. from_more limits steps im (opened_count steps) (Change entry ∷ tail) (book.since (was_honest honest) t im le (past.past t im (omega (arith, early)) left)))
+        (λ late. from_fewer limits made im (opened_count steps) (length steps) (count_within limits steps s (devices_faults meaning devices) book.history) (since_then honest t im late left)) (cases_lt t line.moment))
 
-      pub keeps : (end' : ℕ) → (IsTrue tells → broken_by steps ≡ None → IsInJournal (meaning devices.first) limits next end') → IsBook tells meaning (with_steps tail) end'
-      keeps end' now =
-          let back : limits ≡ next.index.limits = sym same_limits in
-          record {
-            history = subst (λ (l : Limits). IsHistory l steps next.index (devices_faults meaning devices)) back history;
-            has_bytes = bytes_kept old.cache entry bytes book.has_bytes (sized (fresh_of entry) blob fit.brings);
-            whole = fit.whole;
-            time = omega (arith, book.time, past.later);
-            now = λ told none. subst (λ (l : Limits). IsInJournal (meaning devices.first) l next end') back (now told none);
-            sound = λ honest. fit.sound (book.sound (was_honest (subst (λ (l : Limits). IsHonest tells new_line l old.opened) same_limits honest)));
-            since = λ honest t im le left. subst (λ (l : Limits). OpensSome l steps im) back (still_since (subst (λ (l : Limits). IsHonest tells new_line l old.opened) same_limits honest) t im le left);
-          }
+    -- the history, where the steps after the change leave its state, and are lawful
+    history_made : after s entry ≡ after_steps (after s entry) tail → AreLawful book.history.faults (after s entry) tail → IfSome (broken_by tail) (λ now. now ≤ devices_faults meaning after_devices)
+        → IsHistory (after s entry).limits made (after s entry) (devices_faults meaning after_devices)
+    history_made still lawful broken =
+        subst (λ (l : Limits). IsHistory l made (after s entry) (devices_faults meaning after_devices)) (sym same_limits)
+        (history_more limits steps s (devices_faults meaning devices) book.history (Change entry ∷ tail) (after s entry) (devices_faults meaning after_devices) unbroken later still (fit.lawful, lawful) broken)
 
-    pub goes : GoesOn tells meaning old (with_steps tail)
-    goes = record { opened = refl; later = later; past = past; crash = λ told none. run told }
+    change_is : change_in (drop (length steps) made) ≡ Some entry
+    change_is = ap change_in (drop-append_seam steps (Change entry ∷ tail))
 
-  -- the entry was written
-  pub keeps_done : (end' : ℕ) → ((generation : ℕ) (bodies : List (List ℕ)) → IsReady (meaning old.devices.first) generation bodies end → IsReady (meaning devices.first) generation (bodies ++ body ∷ []) end')
-      → IsBook tells meaning (with_steps []) end'
-  keeps_done end' ready = keeps [] (λ s. refl) (λ faults s le. tt) tt end' (λ told none.
-      let stored = book.now told unbroken in
-      record { generation = stored.generation; bodies = stored.bodies ++ body ∷ []; ready = ready stored.generation stored.bodies stored.ready; leads = leads_more (empty_cache limits) old.cache stored.bodies body entry bytes stored.leads is fit.legal })
+    pub next_is : (after_reads : ℕ) → next_cache old bytes (seen tells meaning after_devices (after s entry) made opened after_reads) ≡ next
+    next_is after_reads = ap (λ (e : Option Entry). changed cache bytes e) change_is
 
-  broken_now : (before now : ℕ) → broken_by (old.steps ++ Change entry ∷ Broke true before now ∷ []) ≡ None → ⊥
-  broken_now before now none = let gone : Some now ≡ None = sym (broken_more old.steps (Change entry ∷ Broke true before now ∷ []) unbroken) ∙ none in cc
+    pub goes : (after_reads : ℕ) → (IsTrue tells → broken_by made ≡ None → Reaches meaning old → IfSome (meaning after_devices.blobs).held (λ file. AllReach file (after s entry)))
+        → GoesOn tells meaning old bytes (seen tells meaning after_devices (after s entry) made opened after_reads)
+    goes after_reads reaches = record {
+      opened = refl;
+      later = later;
+      past = past;
+      reaches = reaches;
+      crash = λ tell none reaches.
+          subst (λ (c : Cache). EachSince line next_line (λ im. OpensWhole limits im cache ⊎ OpensWhole limits im c)) (sym (next_is after_reads)) (run tell reaches);
+    }
 
-  -- the disks failed meanwhile
-  pub keeps_broken : (before now : ℕ) → before ≡ book_faults meaning old → now ≡ devices_faults meaning devices → Rose (book_faults meaning old) (devices_faults meaning devices) → (end' : ℕ) → IsBook tells meaning (with_steps (Broke true before now ∷ [])) end'
-  keeps_broken before now was is_now rose end' =
-      keeps (Broke true before now ∷ []) (λ s. refl) (λ faults s le. (omega (arith, le, was), omega (arith, rose, was, is_now), refl)) (omega (arith, is_now)) end' (λ told none. absurd (broken_now before now none))
+  -- ---- the entry was written
 
-  -- the book whose parts were changed each by itself
-  pub as_made : (cache : Cache) (listed tail : List Step) → cache ≡ next → listed ≡ old.steps ++ Change entry ∷ tail → record { devices = devices; cache = cache; steps = listed; opened = old.opened } ≡ with_steps tail
-  as_made cache listed tail cache_is steps_is i = record { devices = devices; cache = cache_is i; steps = steps_is i; opened = old.opened }
+  module _ (new_pair : PairView) (same_version : new_pair.version ≡ pair.version)
+      (ready : (bodies : List (List ℕ)) (file : List ℕ) → pair.version ≡ version → IsPairReady meaning devices pair bodies → IsSure (meaning devices.blobs) file
+      → IsPairReady meaning after_devices new_pair (bodies ++ body ∷ []) × IsSure (meaning after_devices.blobs) (with_bytes file (place_of (fresh_of entry)) (bytes_or_none blob))) where
+    stored_next : IsStored meaning devices pair s → IsStored meaning after_devices new_pair (after s entry)
+    stored_next stored =
+        let was = stored.ready in
+        let both = ready was.bodies was.file was.version_is was.journal was.blobs_sure in
+        let legal_is = meanwhile.legal_next s stored.all was.bodies was.spelled stored.are_legal stored.leads entry blob body book.low fit.legal fit.brings spellable is in
+        let leads = meanwhile.leads_next s stored.all was.bodies was.spelled stored.are_legal stored.leads entry blob body book.low fit.legal fit.brings spellable is in
+        record {
+          all = stored.all ++ entry ∷ [];
+          ready = record {
+            version_is = same_version ∙ was.version_is;
+            bodies = was.bodies ++ body ∷ [];
+            journal = both.0;
+            spelled = meanwhile.spelled_next s stored.all was.bodies was.spelled stored.are_legal stored.leads entry blob body book.low fit.legal fit.brings spellable is;
+            file = with_bytes was.file (place_of (fresh_of entry)) (bytes_or_none blob);
+            blobs_sure = both.1;
+          };
+          are_legal = subst (λ (l : Limits). AreLegal (empty_state l) (stored.all ++ entry ∷ [])) (sym same_limits) legal_is;
+          leads = subst (λ (l : Limits). after s entry ≡ after_all (empty_state l) (stored.all ++ entry ∷ [])) (sym same_limits) leads;
+        }
 
--- what a call gives at which the disks failed
-pub breaks : {D : Type 0} (bytes : List ℕ) (entry : Entry) (before now : ℕ) (seen old new : BookView D) → seen ≡ old → broken_by old.steps ≡ None
-    → new.cache ≡ changed seen.cache bytes (Some entry) → new.steps ≡ seen.steps ++ Change entry ∷ Broke true before now ∷ [] → Breaks {A = Unit {0}} old bytes new (λ answer made. (answer ≡ Ok tt) × (made ≡ Some entry))
-breaks {D} bytes entry before now seen old new same unbroken cache_is steps_is =
-    (unbroken, tt, entry, before, now, (refl, refl), cache_is ∙ ap (λ (b : BookView D). changed b.cache bytes (Some entry)) same, steps_is ∙ ap (λ (b : BookView D). b.steps ++ Change entry ∷ Broke true before now ∷ []) same)
+    -- the devices then tell the bytes of each blob, and of the new one those that came with it
+    bytes_next : IsStored meaning devices pair s → IsTrue tells → told_cache tells meaning after_devices (after s entry) ≡ next
+    unfolding stored_next
+    bytes_next stored tell =
+        let was = stored.ready in
+        let told = same_cache tells meaning rests devices pair s stored tell in
+        let placed = meanwhile.placed s stored.all was.bodies was.spelled stored.are_legal stored.leads in
+        let now = stored_next stored in
+        same_cache tells meaning rests after_devices new_pair (after s entry) now tell
+        ∙ (λ i. record { index = after s entry; bytes = Some (written_gives s entry blob placed book.low fit.legal fit.brings was.file i) })
+        ∙ ap (λ (c : Cache). changed c bytes (Some entry)) (sym told)
 
-pub goes_between : {D : Type 0} (tells : Bool) (meaning : D → Meaning) {seen old made new : BookView D} → seen ≡ old → new ≡ made → GoesOn tells meaning seen made → GoesOn tells meaning old new
-goes_between {D} tells meaning {seen} {old} {made} {new} same is goes = subst (λ (b : BookView D). GoesOn tells meaning b new) same (subst (λ (b : BookView D). GoesOn tells meaning seen b) (sym is) goes)
+    nothing_at : (b : Bool) → b ≡ false → told_bytes b (meaning after_devices.blobs).held (after s entry) ≡ option_map (λ (all : FinMap blob_cmp (List ℕ)). kept all entry bytes) (told_bytes b (meaning devices.blobs).held s)
+    nothing_at true off = absurd (cc)
+    nothing_at false off = refl
+
+    bytes_none : tells ≡ false → told_cache tells meaning after_devices (after s entry) ≡ next
+    bytes_none off i = record { index = after s entry; bytes = nothing_at tells off i }
+
+    pub told_next : told_cache tells meaning after_devices (after s entry) ≡ next
+    told_next = split tells refl where
+      split : (t : Bool) → tells ≡ t → told_cache tells meaning after_devices (after s entry) ≡ next
+      split true e = bytes_next (book.now e unbroken) e
+      split false e = bytes_none e
+
+    reach_next : IsTrue tells → Reaches meaning old → IfSome (meaning after_devices.blobs).held (λ file. AllReach file (after s entry))
+    unfolding stored_next
+    reach_next tell reaches =
+        let stored = book.now tell unbroken in
+        let was = stored.ready in
+        let placed = meanwhile.placed s stored.all was.bodies was.spelled stored.are_legal stored.leads in
+        reaches_stored tells meaning rests after_devices new_pair (after s entry) (stored_next stored)
+        (written_reaches s entry blob placed book.low fit.legal fit.brings was.file fit.starts (reach_stored tells meaning rests devices pair s stored reaches))
+
+    abbrev Made : List Step
+    Made = steps ++ Change entry ∷ []
+
+    sound_next : IsHonest tells line limits opened → IsSound (told_cache tells meaning after_devices (after s entry))
+    sound_next was = subst (λ (c : Cache). IsSound c) (sym told_next) (fit.sound (book.sound was unbroken).0)
+
+    last_made : IsHonest tells next_line limits opened → (t : ℕ) (im : Images) → next_line.moment ≤ t → next_line.left t im → OpensFrom (sure_count Made) limits Made im
+    last_made honest t im le left =
+        let was = was_honest honest in
+        let first = meaning after_devices.first in
+        let second = meaning after_devices.second in
+        let blobs = meaning after_devices.blobs in
+        let now = (lending.rests first second blobs (rests after_devices.first) (rests after_devices.second) (rests after_devices.blobs)).stands t im le left in
+        let opens = sound_stored tells meaning rests after_devices new_pair (after s entry) (stored_next (book.now honest.told unbroken)) honest.told fit.whole (sound_next was) (reach_next honest.told (book.sound was unbroken).1) im now in
+        let here = subst (λ (l : Limits). OpensSound l im (told_cache tells meaning after_devices (after s entry))) same_limits opens in
+        let from = from_all limits Made im [] (told_cache tells meaning after_devices (after s entry)) here (leaves_next []) in
+        let count : length Made ≡ sure_count Made = (let long : length Made ≡ length steps + 1 = omega (arith, length-append steps (Change entry ∷ [])) in long) ∙ sym (sure_more steps entry unbroken) in
+        subst (λ (n : ℕ). OpensFrom n limits Made im) count (subst (λ (l : List Step). OpensFrom (length Made) limits l im) (append-nil Made) from)
+
+    pub kept_done : (after_reads : ℕ) → IsBook tells meaning (seen tells meaning after_devices (after s entry) (steps ++ Change entry ∷ []) opened after_reads) new_pair
+    kept_done after_reads = record {
+      history = history_made [] refl tt tt;
+      whole = fit.whole;
+      low = subst (λ (l : Limits). l.units ≤ 2 ^ 51) (sym same_limits) book.low;
+      time = omega (arith, book.time, past.later);
+      now = λ tell none. stored_next (book.now tell unbroken);
+      sound = λ honest none. let was = was_honest (honest_here honest) in (sound_next was, reach_next honest.told (book.sound was unbroken).1);
+      since = λ honest t im le left. subst (λ (l : Limits). OpensFrom (opened_count Made) l Made im) (sym same_limits) (since_made [] (honest_here honest) t im le left);
+      last = λ honest t im le left. subst (λ (l : Limits). OpensFrom (sure_count Made) l Made im) (sym same_limits) (last_made (honest_here honest) t im le left);
+    }
+
+    pub goes_done : (after_reads : ℕ) → GoesOn tells meaning old bytes (seen tells meaning after_devices (after s entry) (steps ++ Change entry ∷ []) opened after_reads)
+    goes_done after_reads = goes [] after_reads (λ tell none reaches. reach_next tell reaches)
+
+    pub commits_done : (after_reads : ℕ) → Commits meaning old entry bytes (seen tells meaning after_devices (after s entry) (steps ++ Change entry ∷ []) opened after_reads) (Ok tt)
+    commits_done after_reads = (unbroken, Some entry, (refl, refl), (told_next, refl))
+
+  -- ---- the disks failed meanwhile
+
+  module _ (new_pair : PairView) (before now : ℕ) (was_count : before ≡ devices_faults meaning devices) (is_count : now ≡ devices_faults meaning after_devices) (rose : Rose (devices_faults meaning devices) (devices_faults meaning after_devices)) where
+    abbrev Noted : List Step
+    Noted = Broke true before now ∷ []
+
+    abbrev Broken : List Step
+    Broken = steps ++ Change entry ∷ Broke true before now ∷ []
+
+    never : broken_by (steps ++ Change entry ∷ Broke true before now ∷ []) ≡ None → ⊥
+    never none = let gone : Some now ≡ None = sym (broken_more steps (Change entry ∷ Broke true before now ∷ []) unbroken) ∙ none in cc
+
+    last_broken : IsHonest tells next_line limits opened → (t : ℕ) (im : Images) → next_line.moment ≤ t → next_line.left t im → OpensFrom (sure_count Broken) limits Broken im
+    last_broken honest t im le left =
+        subst (λ (n : ℕ). OpensFrom n limits Broken im) (sym (sure_unwritten steps entry before now unbroken)) (since_then Noted honest t im (omega (arith, le, past.later)) left)
+
+    pub kept_failed : (after_reads : ℕ) → IsBook tells meaning (seen tells meaning after_devices (after s entry) (steps ++ Change entry ∷ Broke true before now ∷ []) opened after_reads) new_pair
+    kept_failed after_reads = record {
+      history = history_made Noted refl (omega (arith, was_count, book.history.later), omega (arith, was_count, is_count, rose), refl) (omega (arith, is_count));
+      whole = fit.whole;
+      low = subst (λ (l : Limits). l.units ≤ 2 ^ 51) (sym same_limits) book.low;
+      time = omega (arith, book.time, past.later);
+      now = λ tell none. absurd (never none);
+      sound = λ honest none. absurd (never none);
+      since = λ honest t im le left. subst (λ (l : Limits). OpensFrom (opened_count Broken) l Broken im) (sym same_limits) (since_made Noted (honest_here honest) t im le left);
+      last = λ honest t im le left. subst (λ (l : Limits). OpensFrom (sure_count Broken) l Broken im) (sym same_limits) (last_broken (honest_here honest) t im le left);
+    }
+
+    pub goes_failed : (after_reads : ℕ) → GoesOn tells meaning old bytes (seen tells meaning after_devices (after s entry) (steps ++ Change entry ∷ Broke true before now ∷ []) opened after_reads)
+    goes_failed after_reads = goes Noted after_reads (λ tell none reaches. absurd (never none))
+
+    pub commits_failed : (after_reads : ℕ) → Commits meaning old entry bytes (seen tells meaning after_devices (after s entry) (steps ++ Change entry ∷ Broke true before now ∷ []) opened after_reads) (Err DiskFailed)
+    commits_failed after_reads = (unbroken, tt, entry, (refl, refl), refl, λ i. steps ++ Change entry ∷ Broke true (was_count i) (is_count i) ∷ [])

@@ -1,47 +1,45 @@
 -- What a book's type keeps once it is opened.
-use Rattle.std.proofs.Common.{◌≡◌, ℕ, ◌≤◌, List, [], ◌∷◌, ◌++◌, length, refl, sym, ◌∙◌, ap, subst, arith}
-use Rattle.std.proofs.lemmas.List.{take_all}
-use Rattle.std.specs.Prelude.{Bool, IsTrue, IsSome, IfSome, Some, Option}
-use Rattle.ddc_disk.specs.Disk.{Timeline, Meaning, IsImage, Rests}
+use Rattle.std.proofs.Common.{◌≡◌, ℕ, ◌^◌, ◌≤◌, List, [], ◌∷◌, ◌++◌, length, refl, sym, ◌∙◌, ap, subst, arith}
+use Rattle.std.proofs.lemmas.List.{append-nil}
+use Rattle.std.specs.Prelude.{Bool, IsTrue, IsSome, IfSome, None, Some, Option}
+use Rattle.ddc_disk.specs.Disk.{Timeline, Meaning, IsImage, EachImage, Rests}
 use Rattle.ddc_disk.specs.Images.{Images, devices_line, devices_faults}
-use Rattle.ddc_disk.specs.Lending.{all_now, each_now, rests as all_rest}
+use Rattle.ddc_disk.specs.Lending.{all_now, rests as all_rest}
 use Rattle.ddc_disk.specs.Told.{told_file}
 use Rattle.ddc_disk.specs.declared.devices.Devices.{Devices}
+use Rattle.ddc_journal.specs.Pairs.{PairView}
 use Rattle.ddc_model.specs.declared.rows.Limits.{Limits}
 use Rattle.ddc_model.specs.declared.entry.Step.{Step}
-use Rattle.ddc_model.specs.declared.entry.Step.TheVariants.{Loaded, Change, Broke}
+use Rattle.ddc_model.specs.declared.entry.Step.TheVariants.{Loaded}
 use Rattle.ddc_model.specs.State.{State, empty_state}
-use Rattle.ddc_model.specs.Sound.{Cache, empty_cache, IsSound}
-use Rattle.ddc_model.specs.History.{after_step, after_steps}
-use Rattle.ddc_opening.specs.Opening.{Leads, HoldsCache, OpensAs}
-use Rattle.ddc_opening.specs.Laws.{OneHolding}
-use Rattle.ddc_book.specs.View.{IsBook, IsInJournal}
-use Rattle.ddc_opening.specs.Loading.{IsReplayed, IsOpenStore}
-use Rattle.ddc_book.proofs.Kept.{after_limits}
-use Rattle.ddc_opening.proofs.Steps.{after_more, broken_more}
+use Rattle.ddc_model.specs.Sound.{Cache, empty_cache}
+use Rattle.ddc_model.specs.History.{after_steps, broken_by}
+use Rattle.ddc_opening.specs.Opening.{AllReach, OpensAs, OpensSound}
+use Rattle.ddc_opening.specs.Laws.{OneOpening}
+use Rattle.ddc_opening.specs.Loading.{IsOpenStore}
+use Rattle.ddc_opening.specs.Changes.{after_changes, unbroken_changes}
+use Rattle.ddc_opening.specs.BytesIn.{bytes_empty}
+use Rattle.ddc_book.specs.View.{told_cache, opened_count, OpensFrom, IsHonest, IsStored, IsBook}
+use Rattle.ddc_book.specs.Loading.{AreSure}
+use Rattle.ddc_book.proofs.Limits.{all_limits}
+use Rattle.ddc_book.proofs.Steps.{steps_more, broken_more, opened_within, sure_all}
+use Rattle.ddc_book.proofs.Stored.{seen, cache_told, images, opens_stored, reaches_stored, from_fewer, from_all}
 
--- ---- the steps
+-- the limits within which a store was opened are those of its state
+pub limits_stay : {D : Type 0} (tells : Bool) (meaning : D → Meaning) (devices : Devices D) (limits : Limits) (pair : PairView) (s : State) (steps : List Step) → IsOpenStore tells meaning devices limits pair s steps → s.limits ≡ limits
+limits_stay tells meaning devices limits pair s steps found = ap (λ (t : State). t.limits) found.state ∙ all_limits (empty_state limits) found.all
 
-step_limits : (s : State) (step : Step) → (after_step s step).limits ≡ s.limits
-step_limits s (Loaded limits faults) = refl
-step_limits s (Change entry) = after_limits s entry
-step_limits s (Broke changed before now) = refl
-
-steps_limits : (s : State) (steps : List Step) → (after_steps s steps).limits ≡ s.limits
-steps_limits s [] = refl
-steps_limits s (step ∷ steps) = steps_limits (after_step s step) steps ∙ step_limits s step
-
--- within these limits the state was led to
-pub limits_stay : (limits : Limits) (bodies : List (List ℕ)) (cache : Cache) (steps : List Step) → IsReplayed limits bodies cache steps → cache.index.limits ≡ limits
-limits_stay limits bodies cache steps x = ap (λ (s : State). s.limits) x.leaves ∙ steps_limits (empty_state limits) steps
-
--- ---- the book
+-- the empty state, with the bytes that the devices tell
+pub empty_told : {D : Type 0} (tells : Bool) (meaning : D → Meaning) (devices : Devices D) (limits : Limits) → IsTrue tells → IsSome (meaning devices.blobs).held → told_cache tells meaning devices (empty_state limits) ≡ empty_cache limits
+empty_told tells meaning devices limits tell told =
+    let file = told_file (meaning devices.blobs).held told in
+    cache_told tells meaning devices (empty_state limits) file.0 tell file.1 ∙ (λ i. record { index = empty_state limits; bytes = Some (bytes_empty file.0 i) })
 
 module _ {D : Type 0} (tells : Bool) (meaning : D → Meaning) (rests : (d : D) → Rests (meaning d).line)
     (told : (d : D) → IsTrue tells → IsSome (meaning d).held) (reads : (d : D) (file : List ℕ) → (meaning d).held ≡ Some file → IsImage (meaning d).line file)
-    (one_holding : OneHolding) (devices : Devices D) (cache : Cache) (end : ℕ) where
+    (one_opening : OneOpening) (devices : Devices D) (pair : PairView) (s : State) (low : s.limits.units ≤ 2 ^ 51) where
   abbrev limits : Limits
-  limits = cache.index.limits
+  limits = s.limits
 
   abbrev all : Timeline Images
   all = devices_line meaning devices
@@ -49,13 +47,15 @@ module _ {D : Type 0} (tells : Bool) (meaning : D → Meaning) (rests : (d : D) 
   abbrev faults : ℕ
   faults = devices_faults meaning devices
 
-  -- an image now holds the cache
-  module _ (bodies : List (List ℕ)) (leads : Leads (empty_cache limits) bodies cache) (stored : IsTrue tells → IsInJournal (meaning devices.first) limits cache end) where
-    holds_now : IsTrue tells → (im : Images) → IsImage all im → HoldsCache limits im.first cache
-    holds_now tell im now =
-        let is = stored tell in
-        let first = (each_now (meaning devices.first) (meaning devices.second) (meaning devices.blobs) (rests devices.first) (rests devices.second) (rests devices.blobs) im now).0 in
-        record { generation = is.generation; bodies = is.bodies; loads = is.ready.each im.first first; leads = is.leads }
+  abbrev cache : Cache
+  cache = told_cache tells meaning devices s
+
+  module _ (steps : List Step) (found : IsOpenStore tells meaning devices s.limits pair s steps) where
+    stored : IsTrue tells → IsStored meaning devices pair s
+    stored tell = record { all = found.all; ready = found.ready tell; are_legal = found.are_legal; leads = found.state }
+
+    opens_now : IsTrue tells → EachImage all (λ im. OpensAs s.limits im (told_cache tells meaning devices s))
+    opens_now tell im now = opens_stored tells meaning rests devices pair s (stored tell) tell found.whole im now
 
     -- what the devices read as is one of their images
     some_image : IsTrue tells → (im : Images) × IsImage all im
@@ -69,57 +69,84 @@ module _ {D : Type 0} (tells : Bool) (meaning : D → Meaning) (rests : (d : D) 
               (reads devices.first first.0 first.1) (reads devices.second second.0 second.1) (reads devices.blobs blobs.0 blobs.1),
         )
 
-    -- a sound state that an image now opens to is the cache
-    same_now : IsTrue tells → (im : Images) → IsImage all im → (state : Cache) → OpensAs limits im state → state ≡ cache
-    same_now tell im now state opens = one_holding limits im.first state cache opens.holds (holds_now tell im now)
+    -- a sound state that an image now opens to is the book's
+    sound_now : IsTrue tells → (im : Images) → IsImage all im → (state : Cache) → OpensSound limits im state → OpensSound limits im cache
+    sound_now tell im now state opens = subst (λ (c : Cache). OpensSound limits im c) (one_opening limits im state cache opens.opens (opens_now tell im now)) opens
 
-  is_book : (steps : List Step) → IsOpenStore tells (meaning devices.first) limits cache steps end
-      → IsBook tells meaning (record { devices = devices; cache = cache; steps = steps ++ Loaded limits faults ∷ []; opened = all.moment }) end
-  is_book steps found =
-      let replayed = found.replayed in
-      let longer = steps ++ Loaded limits faults ∷ [] in
-      let leaves : cache.index ≡ after_steps (empty_state limits) longer = replayed.leaves ∙ sym (after_more (empty_state limits) steps (Loaded limits faults ∷ [])) in
-      let unbroken = broken_more steps (Loaded limits faults ∷ []) replayed.unbroken in
-      let stored : IsTrue tells → IsInJournal (meaning devices.first) limits cache end =
-      λ tell. let ready = found.ready tell in record { generation = ready.0; bodies = found.bodies; ready = ready.1; leads = replayed.leads } in
-      record {
-        history = record {
-          opened = steps;
-          faults = faults;
-          made = [];
-          split = refl;
-          lawful = tt;
-          leaves = leaves;
-          later = omega arith;
-          broken = subst (λ (b : Option ℕ). IfSome b (λ now. now ≤ faults)) (sym unbroken) tt;
-        };
-        has_bytes = replayed.has_bytes;
-        whole = found.whole;
-        time = omega arith;
-        now = λ tell whole. stored tell;
-        sound = λ honest.
-            let some = some_image found.bodies replayed.leads stored honest.told in
-            let opens = honest.sound some.0 some.1 in
-            subst IsSound (same_now found.bodies replayed.leads stored honest.told some.0 some.1 opens.0 opens.1) opens.2;
-        since = λ honest t im le left.
-            let now = (all_rest (meaning devices.first) (meaning devices.second) (meaning devices.blobs) (rests devices.first) (rests devices.second) (rests devices.blobs)).stands t im le left in
-            let opens = honest.sound im now in
-            let same = same_now found.bodies replayed.leads stored honest.told im now opens.0 opens.1 in
-            record {
-              n = length longer;
-              within = omega arith;
-              state = opens.0;
-              opens = opens.1;
-              index = ap (λ (c : Cache). c.index) same ∙ leaves ∙ ap (after_steps (empty_state limits)) (sym (take_all (length longer) longer (omega arith)));
-              sound = opens.2;
-            };
-      }
+    abbrev longer : List Step
+    longer = steps ++ Loaded limits faults ∷ []
 
-  -- the same within limits that are those of the cache
-  pub book_opened : (given : Limits) (steps longer : List Step) (count opened : ℕ) → IsOpenStore tells (meaning devices.first) given cache steps end → longer ≡ steps ++ Loaded given count ∷ [] → count ≡ faults → opened ≡ all.moment
-      → IsBook tells meaning (record { devices = devices; cache = cache; steps = longer; opened = opened }) end
-  book_opened given steps longer count opened found is counted at =
-      let same : given ≡ limits = sym (limits_stay given found.bodies cache steps found.replayed) in
-      let here = subst (λ (l : Limits). IsOpenStore tells (meaning devices.first) l cache steps end) same found in
+    unbroken : broken_by steps ≡ None
+    unbroken = ap broken_by found.steps_are ∙ unbroken_changes found.all
+
+    still_unbroken : broken_by longer ≡ None
+    still_unbroken = broken_more steps (Loaded limits faults ∷ []) unbroken
+
+    leaves : s ≡ after_steps (empty_state limits) longer
+    leaves = found.state ∙ sym (after_changes (empty_state limits) found.all) ∙ ap (after_steps (empty_state limits)) (sym found.steps_are) ∙ sym (steps_more (empty_state limits) steps (Loaded limits faults ∷ []))
+
+    all_steps : IsHonest tells all limits all.moment → (t : ℕ) (im : Images) → all.moment ≤ t → all.left t im → OpensFrom (length longer) limits longer im
+    all_steps honest t im le left =
+        let now = (all_rest (meaning devices.first) (meaning devices.second) (meaning devices.blobs) (rests devices.first) (rests devices.second) (rests devices.blobs)).stands t im le left in
+        let opens = honest.sound im now in
+        subst (λ (l : List Step). OpensFrom (length longer) limits l im) (append-nil longer) (from_all limits longer im [] cache (sound_now honest.told im now opens.0 opens.1) leaves)
+
+    is_book : (reads_count : ℕ) → IsBook tells meaning (seen tells meaning devices s longer all.moment reads_count) pair
+    unfolding stored
+    is_book reads_count = record {
+      history = record {
+        opened = steps;
+        faults = faults;
+        made = [];
+        split = refl;
+        unbroken = unbroken;
+        lawful = tt;
+        leaves = leaves;
+        later = omega arith;
+        broken = subst (λ (b : Option ℕ). IfSome b (λ now. now ≤ faults)) (sym still_unbroken) tt;
+      };
+      whole = found.whole;
+      low = low;
+      time = omega arith;
+      now = λ tell none. stored tell;
+      sound = λ honest none.
+          let some = some_image honest.told in
+          let opens = honest.sound some.0 some.1 in
+          let is = sound_now honest.told some.0 some.1 opens.0 opens.1 in
+          let at = (images tells meaning rests devices pair s (stored honest.told) some.0 some.1).2 in
+          (is.sound, reaches_stored tells meaning rests devices pair s (stored honest.told) (subst (λ (f : List ℕ). AllReach f s) at is.reach));
+      since = λ honest t im le left. from_fewer limits longer im (opened_count longer) (length longer) (opened_within steps limits faults []) (all_steps honest t im le left);
+      last = λ honest t im le left. subst (λ (n : ℕ). OpensFrom n limits longer im) (sym (sure_all longer still_unbroken)) (all_steps honest t im le left);
+    }
+
+  -- the same within limits that are those of the state
+  pub book_opened : (given : Limits) (steps longer : List Step) (count opened reads_count : ℕ) → IsOpenStore tells meaning devices given pair s steps → longer ≡ steps ++ Loaded given count ∷ [] → count ≡ faults → opened ≡ all.moment
+      → IsBook tells meaning (seen tells meaning devices s longer opened reads_count) pair
+  book_opened given steps longer count opened reads_count found is counted at =
+      let same : given ≡ limits = sym (limits_stay tells meaning devices given pair s steps found) in
+      let here = subst (λ (l : Limits). IsOpenStore tells meaning devices l pair s steps) same found in
       let all_is : longer ≡ steps ++ Loaded limits faults ∷ [] = is ∙ (λ i. steps ++ Loaded (same i) (counted i) ∷ []) in
-      subst (λ (p : List Step × ℕ). IsBook tells meaning (record { devices = devices; cache = cache; steps = p.0; opened = p.1 }) end) (λ i. (sym all_is i, sym at i)) (is_book steps here)
+      subst (λ (p : List Step × ℕ). IsBook tells meaning (seen tells meaning devices s p.0 p.1 reads_count) pair) (λ i. (sym all_is i, sym at i)) (is_book steps here reads_count)
+
+-- within the limits that were given
+module _ {D : Type 0} (tells : Bool) (meaning : D → Meaning) (rests : (d : D) → Rests (meaning d).line) (devices : Devices D) (limits : Limits) (pair : PairView) (s : State) (steps : List Step) (found : IsOpenStore tells meaning devices limits pair s steps) where
+  same_limits : limits ≡ s.limits
+  same_limits = sym (limits_stay tells meaning devices limits pair s steps found)
+
+  here : IsOpenStore tells meaning devices s.limits pair s steps
+  here = subst (λ (l : Limits). IsOpenStore tells meaning devices l pair s steps) same_limits found
+
+  pub sure_opened : IsTrue tells → AreSure meaning devices
+  sure_opened tell = let ready = found.ready tell in record {
+    first = ready.journal.first;
+    second = ready.journal.second;
+    blobs = ready.file;
+    first_sure = ready.journal.first_sure;
+    second_sure = ready.journal.second_sure;
+    blobs_sure = ready.blobs_sure;
+  }
+
+  pub opens_opened : IsTrue tells → EachImage (devices_line meaning devices) (λ im. OpensAs limits im (told_cache tells meaning devices s))
+  opens_opened tell im now =
+      subst (λ (l : Limits). OpensAs l im (told_cache tells meaning devices s)) (sym same_limits)
+      (opens_stored tells meaning rests devices pair s (record { all = here.all; ready = here.ready tell; are_legal = here.are_legal; leads = here.state }) tell here.whole im now)

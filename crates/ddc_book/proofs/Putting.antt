@@ -75,26 +75,26 @@ module _ (s : State) (name : RefName) (content : Content) (hour : ℕ) where
 
   pub new_links : blob_at s name.space (content_hash content.bytes) ≡ None → links_in (with_object s name content hour) name.space ≡ with_links (links_in s name.space) (content_hash content.bytes) content.links
   new_links absent =
-      ap (λ (found : Option Blob). links_in (with_put_root s name.space root (fresh_where found content) (hour_of s hour)) name.space) absent
-      ∙ (λ i other. added_links s name.space root (blob_of (stored_content content) (hour_of s hour)) other i)
+      ap (λ (found : Option Blob). links_in (with_put_root s name.space root (fresh_where s found content) (hour_of s hour)) name.space) absent
+      ∙ (λ i other. added_links s name.space root (blob_of (stored_content s content) (hour_of s hour)) other i)
 
   pub known_links : has_blob s name.space (content_hash content.bytes) ≡ true → links_in (with_object s name content hour) name.space ≡ links_in s name.space
   known_links there = by_cases (blob_at s name.space root) refl there where
     by_cases : (found : Option Blob) → blob_at s name.space root ≡ found → is_some found ≡ true → links_in (with_object s name content hour) name.space ≡ links_in s name.space
     by_cases None is some = absurd (cc)
     by_cases (Some found) is some =
-        ap (λ (o : Option Blob). links_in (with_put_root s name.space root (fresh_where o content) (hour_of s hour)) name.space) is
+        ap (λ (o : Option Blob). links_in (with_put_root s name.space root (fresh_where s o content) (hour_of s hour)) name.space) is
         ∙ ap (λ (o : Option Blob). links_in (record s { blobs = pinned s.blobs (blob_name name.space root) (hour_of s hour) o }) name.space) is
         ∙ (λ i other. same_links s name.space root (record found { row = record found.row { at = max found.row.at (hour_of s hour) } }) found is refl other i)
 
   pub fresh_known : has_blob s name.space (content_hash content.bytes) ≡ true → None ≡ fresh_root s name content
   fresh_known there = by_cases (blob_at s name.space root) there where
-    by_cases : (found : Option Blob) → is_some found ≡ true → None ≡ fresh_where found content
+    by_cases : (found : Option Blob) → is_some found ≡ true → None ≡ fresh_where s found content
     by_cases None some = absurd (cc)
     by_cases (Some found) some = refl
 
-  pub fresh_new : blob_at s name.space (content_hash content.bytes) ≡ None → Some (stored_content content) ≡ fresh_root s name content
-  fresh_new absent = sym (ap (λ (found : Option Blob). fresh_where found content) absent)
+  pub fresh_new : blob_at s name.space (content_hash content.bytes) ≡ None → Some (stored_content s content) ≡ fresh_root s name content
+  fresh_new absent = sym (ap (λ (found : Option Blob). fresh_where s found content) absent)
 
   pub put_unknown : has_space s name.space ≡ false → PutAs s name content hour (Err UnknownSpace) None
   put_unknown unknown =
@@ -134,7 +134,7 @@ known_put cache name content hour known there refs more room needs hash same are
 
 -- what a put of an object that isn't there gives
 pub new_put : (cache : Cache) (name : RefName) (content : Content) (hour : ℕ) → has_space cache.index name.space ≡ true → blob_at cache.index name.space (content_hash content.bytes) ≡ None
-    → (stored_as : Stored) → stored_as ≡ stored_content content → (refs : ℕ) → refs ≡ added (is_some (get cache.index.slots name)) → None ≡ full_by cache.index 0 (Some stored_as) refs
+    → (stored_as : Stored) → stored_as ≡ stored_content cache.index content → (refs : ℕ) → refs ≡ added (is_some (get cache.index.slots name)) → None ≡ full_by cache.index 0 (Some stored_as) refs
     → (needs : List IoHash) (hash : IoHash) → hash ≡ content_hash content.bytes → (links : List Link) → links ≡ content.links
     → AreNeeds (with_links (links_in cache.index name.space) hash links) hash needs → (entry : Entry) → entry ≡ Put name hash (Some stored_as) (needs_none needs) (hour_of cache.index hour) → PutAs cache.index name content hour (Ok needs) (Some entry)
 new_put cache name content hour known absent stored_as is refs more room needs hash same links found are entry made =

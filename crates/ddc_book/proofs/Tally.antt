@@ -1,5 +1,5 @@
 -- What is kept beside the steps, as steps are added.
-use Rattle.std.specs.Prelude.{◌≡◌, ℕ, ◌+◌, ◌<◌, true, List, [], ◌∷◌, ◌++◌, Option, None, Some}
+use Rattle.std.specs.Prelude.{◌≡◌, ℕ, ◌+◌, ◌<◌, Bool, List, [], ◌∷◌, ◌++◌, Option, None, Some}
 use Rattle.std.proofs.Common.{ap, sym, ◌∙◌}
 use Rattle.ddc_model.specs.declared.rows.Limits.{Limits}
 use Rattle.ddc_model.specs.declared.entry.Entry.{Entry}
@@ -8,8 +8,7 @@ use Rattle.ddc_model.specs.declared.entry.Step.TheVariants.{Loaded, Change, Brok
 use Rattle.ddc_model.specs.Counts.{added_links, fresh_of}
 use Rattle.ddc_model.specs.History.{broken_by, none_yet, Past, past_of}
 use Rattle.ddc_book.specs.inside.Tallies.{IsTallied}
-use Rattle.ddc_opening.proofs.Steps.{broken_more}
-use Rattle.ddc_book.proofs.Steps.{past_more}
+use Rattle.ddc_book.proofs.Steps.{broken_more, past_more}
 
 module _ (steps : List Step) (len capacity : ℕ) (unbroken : broken_by steps ≡ None) where
   past_is : (step : Step) (past : Past) → past_of (steps ++ step ∷ []) ≡ past → (more : List Step) → more ≡ steps ++ step ∷ [] → past_of more ≡ past
@@ -36,11 +35,11 @@ module _ (steps : List Step) (len capacity : ℕ) (unbroken : broken_by steps �
         room = λ none. room;
       }
 
-  pub tally_broken : (old_len old_capacity entries links : ℕ) (broken : Option ℕ) (before now : ℕ) (more : List Step) → IsTallied steps entries links broken old_len old_capacity
-      → more ≡ steps ++ Broke true before now ∷ [] → IsTallied more entries links (Some now) len capacity
-  tally_broken old_len old_capacity entries links broken before now more old same =
-      let past = ap past_of same ∙ past_more none_yet steps (Broke true before now ∷ []) in
-      let is_broken = ap broken_by same ∙ broken_more steps (Broke true before now ∷ []) unbroken in
+  pub tally_broken : (old_len old_capacity entries links : ℕ) (broken : Option ℕ) (changed : Bool) (before now : ℕ) (more : List Step) → IsTallied steps entries links broken old_len old_capacity
+      → more ≡ steps ++ Broke changed before now ∷ [] → IsTallied more entries links (Some now) len capacity
+  tally_broken old_len old_capacity entries links broken changed before now more old same =
+      let past = ap past_of same ∙ past_more none_yet steps (Broke changed before now ∷ []) in
+      let is_broken = ap broken_by same ∙ broken_more steps (Broke changed before now ∷ []) unbroken in
       record {
         entries_are = old.entries_are ∙ sym (ap (λ (p : Past). p.entries) past);
         links_are = old.links_are ∙ sym (ap (λ (p : Past). p.links) past);

@@ -21,25 +21,25 @@ is_before a b h = grind (arith, nat_tests)
 
 module _ (s : State) (space : List ℕ) (content : Content) (hour : ℕ) where
   pub upload_unknown : has_space s space ≡ false → UploadAs s space content hour (Err UnknownSpace) None
-  upload_unknown unknown = subst (λ (there : Bool). EntryWhere (if there then with_room s (upload_where (blob_at s space (content_hash content.bytes)) space content (hour_of s hour)) else Err UnknownSpace) (Err UnknownSpace) None) (sym unknown) (refl, refl)
+  upload_unknown unknown = subst (λ (there : Bool). EntryWhere (if there then with_room s (upload_where s (blob_at s space (content_hash content.bytes)) space content (hour_of s hour)) else Err UnknownSpace) (Err UnknownSpace) None) (sym unknown) (refl, refl)
 
   uploads : has_space s space ≡ true → (found : Option Blob) → blob_at s space (content_hash content.bytes) ≡ found → (answer : Result (Unit {0}) StoreFault) (made : Option Entry)
-      → EntryWhere (with_room s (upload_where found space content (hour_of s hour))) answer made → UploadAs s space content hour answer made
-  uploads known found is answer made gives = subst (λ (e : Result (Option Entry) StoreFault). EntryWhere e answer made) (sym (λ i. if known i then with_room s (upload_where (is i) space content (hour_of s hour)) else Err UnknownSpace)) gives
+      → EntryWhere (with_room s (upload_where s found space content (hour_of s hour))) answer made → UploadAs s space content hour answer made
+  uploads known found is answer made gives = subst (λ (e : Result (Option Entry) StoreFault). EntryWhere e answer made) (sym (λ i. if known i then with_room s (upload_where s (is i) space content (hour_of s hour)) else Err UnknownSpace)) gives
 
-  pub upload_adds : has_space s space ≡ true → blob_at s space (content_hash content.bytes) ≡ None → (fresh : Stored) (now : ℕ) → fresh ≡ stored_content content → now ≡ hour_of s hour → full_by s 0 (Some fresh) 0 ≡ None
+  pub upload_adds : has_space s space ≡ true → blob_at s space (content_hash content.bytes) ≡ None → (fresh : Stored) (now : ℕ) → fresh ≡ stored_content s content → now ≡ hour_of s hour → full_by s 0 (Some fresh) 0 ≡ None
       → UploadAs s space content hour (Ok tt) (Some (Upload space fresh now))
   upload_adds known absent fresh now is later room =
       uploads known None absent (Ok tt) (Some (Upload space fresh now))
-      (subst (λ (blob : Stored). EntryWhere (with_room s (Some (Upload space (stored_content content) (hour_of s hour)))) (Ok tt) (Some (Upload space blob now))) (sym is)
-      (subst (λ (n : ℕ). EntryWhere (with_room s (Some (Upload space (stored_content content) (hour_of s hour)))) (Ok tt) (Some (Upload space (stored_content content) n))) (sym later)
-      (made_where s (Upload space (stored_content content) (hour_of s hour)) (ap (λ (blob : Stored). full_by s 0 (Some blob) 0) (sym is) ∙ room))))
+      (subst (λ (blob : Stored). EntryWhere (with_room s (Some (Upload space (stored_content s content) (hour_of s hour)))) (Ok tt) (Some (Upload space blob now))) (sym is)
+      (subst (λ (n : ℕ). EntryWhere (with_room s (Some (Upload space (stored_content s content) (hour_of s hour)))) (Ok tt) (Some (Upload space (stored_content s content) n))) (sym later)
+      (made_where s (Upload space (stored_content s content) (hour_of s hour)) (ap (λ (blob : Stored). full_by s 0 (Some blob) 0) (sym is) ∙ room))))
 
-  pub upload_is_full : has_space s space ≡ true → blob_at s space (content_hash content.bytes) ≡ None → (fresh : Stored) → fresh ≡ stored_content content → (fault : StoreFault) → full_by s 0 (Some fresh) 0 ≡ Some fault
+  pub upload_is_full : has_space s space ≡ true → blob_at s space (content_hash content.bytes) ≡ None → (fresh : Stored) → fresh ≡ stored_content s content → (fault : StoreFault) → full_by s 0 (Some fresh) 0 ≡ Some fault
       → UploadAs s space content hour (Err fault) None
   upload_is_full known absent fresh is fault room =
       uploads known None absent (Err fault) None
-      (refused_where s (Upload space (stored_content content) (hour_of s hour)) fault (ap (λ (blob : Stored). full_by s 0 (Some blob) 0) (sym is) ∙ room))
+      (refused_where s (Upload space (stored_content s content) (hour_of s hour)) fault (ap (λ (blob : Stored). full_by s 0 (Some blob) 0) (sym is) ∙ room))
 
   abbrev AtFound : Option Blob → ℕ → Type 0
   AtFound found at = option_map (λ (blob : Blob). blob.row.at) found ≡ Some at

@@ -1,74 +1,80 @@
 //! The book: what it holds, and what is looked up in it.
 
-ghost use Rattle.std.specs.Prelude.{◌≡◌, true, IsTrue, None, Some, length, is_some, IfErr, IfOk, IfSome, option_copied, option_map};
+ghost use Rattle.std.specs.Prelude.{◌≡◌, ◌≤◌, true, IsTrue, None, Some, length, is_some, IfErr, IfOk, IfSome, option_copied, option_map};
 ghost use Rattle.std.specs.FinMap as map;
 ghost use Rattle.ddc_disk.specs.Disk.{EachImage};
 ghost use Rattle.ddc_disk.specs.Images.{devices_line};
 ghost use Rattle.ddc_model.specs.declared.fault.StoreFault.TheVariants.{Full};
+ghost use Rattle.ddc_model.specs.Limits.{most_bytes};
 ghost use Rattle.ddc_model.specs.State.{blob_at, has_space};
 ghost use Rattle.ddc_model.specs.Entries.{is_hash};
 ghost use Rattle.ddc_model.specs.Closure.{links_in, with_links, AreNeeds};
-ghost use Rattle.ddc_model.specs.Counts.{added, added_links, fresh_of, passes};
+ghost use Rattle.ddc_model.specs.Counts.{added, added_links, fresh_of, lacks_run, passes};
 ghost use Rattle.ddc_model.specs.Commands.{hour_of, is_done, object_of, touch_entry};
 ghost use Rattle.ddc_model.specs.History.{broken_by, no_room, past_of};
-ghost use Rattle.ddc_book.specs.inside.Making.{full_by, IsRefusal, IsServing};
+ghost use Rattle.ddc_book.specs.inside.Making.{fresh_length, full_by, IsRefusal, IsServing, IsStill};
 ghost use Rattle.ddc_opening.specs.Opening.{OpensAs};
-ghost use Rattle.ddc_book.specs.View.{book_faults, limits_of, IsHonest, EachFrom, OpensSome};
+ghost use Rattle.ddc_book.specs.View.{book_faults, limits_of, opened_count, sure_count, IsHonest, EachFrom, OpensFrom};
 
 use crate::history::{History, added_links_of};
 use cb_fields::Link;
 use ddc_disk::{Devices, Disk, HeldDevices};
-use ddc_journal::Journal;
+use ddc_journal::pair::Pair;
 use ddc_model::{Entry, NameBox, Step, StoreFault, Stored, What};
 use ddc_names::{IoHash, Namespace, NoMemory, RefName, Rows};
-use ddc_opening::Tables;
 use ddc_state::Index;
 use needs_resolver::{needs, needs_with};
 use std::alloc::Global;
 use std::marker::Model;
 
-/// An opened store. Contracts see its devices, its state with the bytes of each blob, its steps and the moment of its
-/// opening. The type keeps that the index is what the steps leave, that each finalised reference has its whole closure,
-/// that while no disk failed a crash now leaves devices that open to its state, and, for devices that held a sound state
-/// when they were opened, that each crash since leaves a sound state of its history.
+/// An opened store. Contracts see its devices, its state with the bytes that the devices tell of each blob, its steps, the
+/// moment of its opening, and how often links were read. The type keeps that the index is what the steps leave, that each
+/// finalised reference has its whole closure, that while no disk failed a crash now leaves devices that open to its state,
+/// and, for devices that held a sound state when they were opened, that each crash since leaves a sound state of its
+/// history.
 #[derive(Drop)]
 pub struct Book<D: Disk> {
     pub(crate) devices: HeldDevices<D>,
-    pub(crate) journal: Journal,
-    pub(crate) tables: Tables,
+    pub(crate) pair: Pair,
+    pub(crate) index: Index,
     pub(crate) history: History,
     pub(crate) opened: u64,
 }
 
 impl<D: Disk> Model for Book<D> {
-    ghost use Rattle.ddc_opening.specs.Tables.{cache_of};
-    ghost use Rattle.ddc_book.specs.View.{BookView, coded_book, IsBook};
+    ghost use Rattle.ddc_book.specs.View.{BookView, coded_book, told_cache, IsBook};
 
     ghost Value = { BookView D };
 
     ghost coded = { coded_book D.code };
 
-    ghost view = { λ b. record { devices = b.devices; cache = cache_of b.tables; steps = b.history; opened = b.opened } };
+    ghost view = { λ b. record { devices = b.devices; cache = told_cache D.tells D.meaning b.devices b.index.state; steps = b.history; opened = b.opened; reads = b.index.reads } };
 
-    ghost invariant = { λ b. IsBook D.tells D.meaning (record { devices = b.devices; cache = cache_of b.tables; steps = b.history; opened = b.opened }) b.journal };
+    ghost invariant = { λ b. IsBook D.tells D.meaning (record { devices = b.devices; cache = told_cache D.tells D.meaning b.devices b.index.state; steps = b.history; opened = b.opened; reads = b.index.reads }) b.pair };
 }
 
 impl<D: Disk> Book<D> {
-    /// Gives the devices back. Where no disk failed, a crash now leaves devices that open to the book's state; and where
-    /// they held a sound state when they were opened, each crash since leaves a sound state that some first steps leave.
+    /// Gives the devices back. Where no disk failed, a crash now leaves devices that open to the book's state. Where they
+    /// held a sound state when they were opened, each crash since leaves a sound state that the changes before the opening
+    /// and some of the first steps after it leave, and a crash now leaves what all steps leave; where a disk failed as a
+    /// change was written, with that change or without it.
     pub fn into_devices(self) -> Devices<D>
         ensures devices { result ≡ self.devices }
         ensures opened { IsTrue D.tells → broken_by self.steps ≡ None → EachImage (devices_line D.meaning result) (λ im. OpensAs (limits_of self) im self.cache) }
-        ensures since { IsHonest D.tells (devices_line D.meaning result) (limits_of self) self.opened → EachFrom (devices_line D.meaning result) self.opened (OpensSome (limits_of self) self.steps) }
+        ensures since { IsHonest D.tells (devices_line D.meaning result) (limits_of self) self.opened → EachFrom (devices_line D.meaning result) self.opened (OpensFrom (opened_count self.steps) (limits_of self) self.steps) }
+        ensures last { IsHonest D.tells (devices_line D.meaning result) (limits_of self) self.opened → EachImage (devices_line D.meaning result) (OpensFrom (sure_count self.steps) (limits_of self) self.steps) }
     {
         let Book { devices, .. } = self;
         devices.into_devices()
     }
 
-    /// Gives the devices back, and the steps.
+    /// Gives the devices back, and the steps, with all that is known of the devices.
     pub fn into_parts(self) -> (Devices<D>, Rows<Step>)
         ensures devices { result.0 ≡ self.devices }
         ensures steps { result.1 ≡ self.steps }
+        ensures opened { IsTrue D.tells → broken_by self.steps ≡ None → EachImage (devices_line D.meaning result.0) (λ im. OpensAs (limits_of self) im self.cache) }
+        ensures since { IsHonest D.tells (devices_line D.meaning result.0) (limits_of self) self.opened → EachFrom (devices_line D.meaning result.0) self.opened (OpensFrom (opened_count self.steps) (limits_of self) self.steps) }
+        ensures last { IsHonest D.tells (devices_line D.meaning result.0) (limits_of self) self.opened → EachImage (devices_line D.meaning result.0) (OpensFrom (sure_count self.steps) (limits_of self) self.steps) }
     {
         let Book {
             devices,
@@ -80,9 +86,10 @@ impl<D: Disk> Book<D> {
 
     /// The index.
     pub fn index(&self) -> &Index
-        ensures { result.now.state ≡ self.now.cache.index }
+        ensures state { result.now.state ≡ self.now.cache.index }
+        ensures reads { result.now.reads ≡ self.now.reads }
     {
-        &self.tables.index
+        &self.index
     }
 
     /// The steps since before the opening: the changes that the store was opened with, the opening, and its own.
@@ -112,6 +119,7 @@ impl<D: Disk> Book<D> {
     // The count of faults at which it broke.
     pub(crate) fn broken(&self) -> Option<u64>
         ensures count { result ≡ broken_by self.now.steps }
+        ensures still { IsStill D.tells D.meaning self.now }
         ensures serves { broken_by self.now.steps ≡ None → IsServing D.tells D.meaning self.now }
     {
         let _ = &self.devices;
@@ -121,20 +129,20 @@ impl<D: Disk> Book<D> {
     pub(crate) fn has_space(&self, space: &Namespace) -> bool
         ensures { result ≡ has_space self.now.cache.index space.now }
     {
-        self.tables.index.space(space).is_some()
+        self.index.space(space).is_some()
     }
 
     pub(crate) fn hour_of(&self, hour: u32) -> u32
         ensures { result ≡ hour_of self.now.cache.index hour }
     {
-        self.tables.index.hour().max(hour)
+        self.index.hour().max(hour)
     }
 
     // The hour at which a blob was stored or named last.
     pub(crate) fn pinned_at(&self, space: &Namespace, hash: &IoHash) -> Option<u32>
         ensures { result ≡ option_map (λ blob. blob.row.at) (blob_at self.now.cache.index space.now hash.now) }
     {
-        match self.tables.index.blob(space, hash) {
+        match self.index.blob(space, hash) {
             Some(row) => Some(row.at),
             None => None,
         }
@@ -148,7 +156,7 @@ impl<D: Disk> Book<D> {
         if !self.has_space(&name.space) {
             return Err(StoreFault::UnknownSpace);
         }
-        match self.tables.index.refs().get(name) {
+        match self.index.refs().get(name) {
             None => Err(StoreFault::NotFound),
             Some(slot) => {
                 if is_hash(slot.done, hash) {
@@ -170,7 +178,7 @@ impl<D: Disk> Book<D> {
         if !self.has_space(&name.space) {
             return Err(StoreFault::UnknownSpace);
         }
-        match self.tables.index.refs().get(name) {
+        match self.index.refs().get(name) {
             None => Err(StoreFault::NotFound),
             Some(slot) => slot.done.ok_or(StoreFault::NotFinalised),
         }
@@ -186,7 +194,7 @@ impl<D: Disk> Book<D> {
         ensures { IfOk result (λ made. made ≡ touch_entry self.now.cache.index name.now hour) }
     {
         let hour = self.hour_of(hour);
-        match self.tables.index.refs().get(name) {
+        match self.index.refs().get(name) {
             Some(slot) if slot.seen < hour => {
                 let name = NameBox::new(alloc, *name)?;
                 Ok(Some(Entry::Touch { name, hour }))
@@ -197,31 +205,42 @@ impl<D: Disk> Book<D> {
 
     // The first limit that so many namespaces and references and a blob more would pass.
     pub(crate) fn full(&self, spaces: u64, fresh: Option<&Stored>, refs: u64) -> Option<StoreFault>
+        requires { fresh_length (option_copied fresh) ≤ most_bytes }
         ensures fault { result ≡ full_by self.now.cache.index spaces (option_copied fresh.entry) refs }
         ensures refusal { IfSome result IsRefusal }
     {
-        let limits = self.tables.index.limits();
+        let limits = self.index.limits();
         let (blobs, links) = match fresh {
             None => (0, 0),
             Some(blob) => (1, blob.links.len() as u64),
         };
-        if passes(
-            self.tables.index.space_count(),
-            spaces,
-            limits.spaces as u64,
-        ) {
+        if passes(self.index.space_count(), spaces, limits.spaces as u64) {
             return full_of(What::Spaces, limits.spaces as u64);
         }
-        if passes(self.tables.index.blob_count(), blobs, limits.blobs) {
+        if passes(self.index.blob_count(), blobs, limits.blobs) {
             return full_of(What::Blobs, limits.blobs);
         }
-        if passes(self.tables.index.refs().len(), refs, limits.refs) {
+        if passes(self.index.refs().len(), refs, limits.refs) {
             return full_of(What::Refs, limits.refs);
         }
-        if passes(self.tables.index.link_count(), links, limits.links) {
+        if passes(self.index.link_count(), links, limits.links) {
             return full_of(What::Links, limits.links);
         }
+        if self.lacks_run(fresh) {
+            return full_of(What::Units, limits.units);
+        }
         None
+    }
+
+    // No run of free units holds the blob.
+    fn lacks_run(&self, fresh: Option<&Stored>) -> bool
+        requires { fresh_length (option_copied fresh) ≤ most_bytes }
+        ensures { result ≡ lacks_run self.now.cache.index (option_copied fresh.entry) }
+    {
+        match fresh {
+            Some(blob) => self.index.free_run(blob.len).is_none(),
+            None => false,
+        }
     }
 
     pub(crate) fn added_spaces(&self, space: &Namespace) -> u64
@@ -233,7 +252,7 @@ impl<D: Disk> Book<D> {
     pub(crate) fn added_refs(&self, name: &RefName) -> u64
         ensures { result ≡ added (is_some (map.get self.now.cache.index.slots name.now)) }
     {
-        match self.tables.index.refs().get(name) {
+        match self.index.refs().get(name) {
             None => 1,
             Some(_) => 0,
         }
@@ -244,7 +263,7 @@ impl<D: Disk> Book<D> {
         ensures fault { result ≡ no_room self.now.cache.index (past_of self.now.steps) entry.now }
         ensures refusal { IfSome result IsRefusal }
     {
-        let limits = self.tables.index.limits();
+        let limits = self.index.limits();
         let (entries, links) = (self.history.entries(), self.history.links());
         if limits.entries <= entries
             || limits.entry_links < links
@@ -262,10 +281,10 @@ impl<D: Disk> Book<D> {
         space: &Namespace,
         root: IoHash,
     ) -> Result<Rows<IoHash>, NoMemory>
-        ensures same { self.new ≡ self.old }
+        ensures same { self.new ≡ record self.old { reads = self.new.reads } }
         ensures needs { IfOk result (λ needs. AreNeeds (links_in self.old.cache.index space.now) root needs) }
     {
-        needs(alloc, &mut self.tables.index, space, root)
+        needs(alloc, &mut self.index, space, root)
     }
 
     // What will be missing of an object that isn't there, and has these links.
@@ -276,10 +295,10 @@ impl<D: Disk> Book<D> {
         root: IoHash,
         links: &[Link],
     ) -> Result<Rows<IoHash>, NoMemory>
-        ensures same { self.new ≡ self.old }
+        ensures same { self.new ≡ record self.old { reads = self.new.reads } }
         ensures needs { IfOk result (λ needs. AreNeeds (with_links (links_in self.old.cache.index space.now) root links.now) root needs) }
     {
-        needs_with(alloc, &mut self.tables.index, space, root, links)
+        needs_with(alloc, &mut self.index, space, root, links)
     }
 }
 

@@ -10,7 +10,7 @@ ghost use Rattle.ddc_model.specs.Content.{IsContent, content_hash};
 ghost use Rattle.ddc_model.specs.Commands.{hour_of, is_done, needs_none, stored_content, SpaceAs, UploadAs, PutAs, FinaliseAs};
 ghost use Rattle.ddc_model.specs.History.{past_of, WithRoom};
 ghost use Rattle.ddc_model.specs.Reads.{DeleteAs, HeldAs};
-ghost use Rattle.ddc_book.specs.Calls.{CommandGives, GoesOn, got};
+ghost use Rattle.ddc_book.specs.Calls.{CommandGives, ReaderGives, GoesOn, got};
 ghost use Rattle.ddc_book.specs.inside.Making.{touch_with_room, IsServing};
 ghost use Rattle.ddc_book.specs.View.{book_faults};
 
@@ -37,8 +37,8 @@ impl<D: Disk> Book<D> {
     ) -> Result<(), StoreFault>
         requires ttl { is_time ttl ≡ true }
         requires pin { is_time pin ≡ true }
-        ensures gives { CommandGives self.old [] self.new (WithRoom self.old.cache.index (past_of self.old.steps) (SpaceAs self.old.cache.index space ttl pin)) result }
-        ensures goes_on { GoesOn D.tells D.meaning self.old self.new }
+        ensures gives { CommandGives D.meaning self.old [] self.new (WithRoom self.old.cache.index (past_of self.old.steps) (SpaceAs self.old.cache.index space ttl pin)) result }
+        ensures goes_on { GoesOn D.tells D.meaning self.old [] self.new }
         ensures cause { result ≡ Err StoreFault.DiskFailed → Rose (book_faults D.meaning self.old) (book_faults D.meaning self.new) }
     {
         if let Some(faults) = self.broken() {
@@ -55,7 +55,7 @@ impl<D: Disk> Book<D> {
     ///
     /// # Errors
     ///
-    /// `Broken`, `UnknownSpace`, `Full` of blobs or links, `HistoryFull`, `NoMemory` or `DiskFailed`. The book is as
+    /// `Broken`, `UnknownSpace`, `Full` of blobs, links or units, `HistoryFull`, `NoMemory` or `DiskFailed`. The book is as
     /// before, but after `DiskFailed`.
     pub fn upload(
         &mut self,
@@ -65,8 +65,8 @@ impl<D: Disk> Book<D> {
         hour: u32,
     ) -> Result<(), StoreFault>
         requires { length blob.bytes ≤ most_bytes }
-        ensures gives { CommandGives self.old blob.bytes self.new (WithRoom self.old.cache.index (past_of self.old.steps) (UploadAs self.old.cache.index space blob hour)) result }
-        ensures goes_on { GoesOn D.tells D.meaning self.old self.new }
+        ensures gives { CommandGives D.meaning self.old blob.bytes self.new (WithRoom self.old.cache.index (past_of self.old.steps) (UploadAs self.old.cache.index space blob hour)) result }
+        ensures goes_on { GoesOn D.tells D.meaning self.old blob.bytes self.new }
         ensures cause { result ≡ Err StoreFault.DiskFailed → Rose (book_faults D.meaning self.old) (book_faults D.meaning self.new) }
     {
         if let Some(faults) = self.broken() {
@@ -87,7 +87,7 @@ impl<D: Disk> Book<D> {
     ///
     /// # Errors
     ///
-    /// `Broken`, `UnknownSpace`, `Full` of blobs, references or links, `HistoryFull`, `NoMemory` or `DiskFailed`. The
+    /// `Broken`, `UnknownSpace`, `Full` of blobs, references, links or units, `HistoryFull`, `NoMemory` or `DiskFailed`. The
     /// book is as before, but after `DiskFailed`.
     pub fn put(
         &mut self,
@@ -98,8 +98,8 @@ impl<D: Disk> Book<D> {
     ) -> Result<Rows<IoHash>, StoreFault>
         requires is_object { object.is_object ≡ true }
         requires short { length object.bytes ≤ most_bytes }
-        ensures gives { CommandGives self.old object.bytes self.new (WithRoom self.old.cache.index (past_of self.old.steps) (PutAs self.old.cache.index name object hour)) result }
-        ensures goes_on { GoesOn D.tells D.meaning self.old self.new }
+        ensures gives { CommandGives D.meaning self.old object.bytes self.new (WithRoom self.old.cache.index (past_of self.old.steps) (PutAs self.old.cache.index name object hour)) result }
+        ensures goes_on { GoesOn D.tells D.meaning self.old object.bytes self.new }
         ensures cause { result ≡ Err StoreFault.DiskFailed → Rose (book_faults D.meaning self.old) (book_faults D.meaning self.new) }
     {
         if let Some(faults) = self.broken() {
@@ -129,8 +129,8 @@ impl<D: Disk> Book<D> {
         hash: IoHash,
         hour: u32,
     ) -> Result<Rows<IoHash>, StoreFault>
-        ensures gives { CommandGives self.old [] self.new (WithRoom self.old.cache.index (past_of self.old.steps) (FinaliseAs self.old.cache.index name.now hash hour)) result }
-        ensures goes_on { GoesOn D.tells D.meaning self.old self.new }
+        ensures gives { CommandGives D.meaning self.old [] self.new (WithRoom self.old.cache.index (past_of self.old.steps) (FinaliseAs self.old.cache.index name.now hash hour)) result }
+        ensures goes_on { GoesOn D.tells D.meaning self.old [] self.new }
         ensures cause { result ≡ Err StoreFault.DiskFailed → Rose (book_faults D.meaning self.old) (book_faults D.meaning self.new) }
     {
         if let Some(faults) = self.broken() {
@@ -151,8 +151,8 @@ impl<D: Disk> Book<D> {
     /// `Broken`, `UnknownSpace`, `NotFound` of the reference, `NotFinalised`, `NoMemory`, `DiskFailed`, or `Damaged`
     /// where the object's bytes have another hash. The book is as before, but after `DiskFailed`.
     pub fn get_ref(&mut self, alloc: Global, name: &RefName, hour: u32) -> Result<Held, StoreFault>
-        ensures gives { CommandGives self.old [] self.new (λ answer made. HeldAs self.old.cache (past_of self.old.steps) name.now hour (got answer) made) result }
-        ensures goes_on { GoesOn D.tells D.meaning self.old self.new }
+        ensures gives { ReaderGives D.meaning self.old self.new (λ answer made. HeldAs self.old.cache (past_of self.old.steps) name.now hour (got answer) made) result }
+        ensures goes_on { GoesOn D.tells D.meaning self.old [] self.new }
         ensures cause { result ≡ Err StoreFault.DiskFailed → Rose (book_faults D.meaning self.old) (book_faults D.meaning self.new) }
     {
         if let Some(faults) = self.broken() {
@@ -162,7 +162,7 @@ impl<D: Disk> Book<D> {
             Ok(hash) => hash,
             Err(fault) => return Err(fault),
         };
-        let bytes = match self.copied(alloc, &name.space, hash) {
+        let bytes = match self.read_blob(alloc, &name.space, hash) {
             Ok(bytes) => bytes,
             Err(fault) => return Err(fault),
         };
@@ -186,8 +186,8 @@ impl<D: Disk> Book<D> {
     /// `Broken`, `UnknownSpace`, `NotFound` of the reference, `HistoryFull`, `NoMemory` or `DiskFailed`. The book is as
     /// before, but after `DiskFailed`.
     pub fn delete(&mut self, alloc: Global, name: &RefName, hour: u32) -> Result<(), StoreFault>
-        ensures gives { CommandGives self.old [] self.new (WithRoom self.old.cache.index (past_of self.old.steps) (DeleteAs self.old.cache.index name.now hour)) result }
-        ensures goes_on { GoesOn D.tells D.meaning self.old self.new }
+        ensures gives { CommandGives D.meaning self.old [] self.new (WithRoom self.old.cache.index (past_of self.old.steps) (DeleteAs self.old.cache.index name.now hour)) result }
+        ensures goes_on { GoesOn D.tells D.meaning self.old [] self.new }
         ensures cause { result ≡ Err StoreFault.DiskFailed → Rose (book_faults D.meaning self.old) (book_faults D.meaning self.new) }
     {
         if let Some(faults) = self.broken() {
@@ -212,6 +212,22 @@ impl<D: Disk> Book<D> {
 
 // The parts of the commands.
 impl<D: Disk> Book<D> {
+    // What an entry says of a blob that is added: it stands in the first run of free units.
+    fn stored(&self, alloc: Global, blob: &Checked) -> Result<Stored, NoMemory>
+        requires { length blob.now.bytes ≤ most_bytes }
+        ensures stored { IfOk result (λ fresh. fresh ≡ stored_content self.now.cache.index blob.now) }
+        ensures read { IsContent blob.now }
+    {
+        let links = Vec::from_slice(alloc, blob.links())?;
+        let len = blob.whole().bytes().len() as u64;
+        Ok(Stored {
+            hash: hash_of(blob),
+            len,
+            start: self.index.free_run(len).unwrap_or(0),
+            links: Rows::of_vec(links),
+        })
+    }
+
     // Stores a blob that isn't there.
     fn upload_new(
         &mut self,
@@ -224,11 +240,11 @@ impl<D: Disk> Book<D> {
         requires known { has_space self.old.cache.index space.now ≡ true }
         requires absent { option_map (λ found. found.row.at) (blob_at self.old.cache.index space.now (content_hash blob.bytes)) ≡ None }
         requires short { length blob.bytes ≤ most_bytes }
-        ensures gives { CommandGives self.old blob.bytes self.new (WithRoom self.old.cache.index (past_of self.old.steps) (UploadAs self.old.cache.index space.now blob hour)) result }
-        ensures goes_on { GoesOn D.tells D.meaning self.old self.new }
+        ensures gives { CommandGives D.meaning self.old blob.bytes self.new (WithRoom self.old.cache.index (past_of self.old.steps) (UploadAs self.old.cache.index space.now blob hour)) result }
+        ensures goes_on { GoesOn D.tells D.meaning self.old blob.bytes self.new }
         ensures cause { result ≡ Err StoreFault.DiskFailed → Rose (book_faults D.meaning self.old) (book_faults D.meaning self.new) }
     {
-        let Ok(fresh) = stored(alloc, &blob) else {
+        let Ok(fresh) = self.stored(alloc, &blob) else {
             return Err(StoreFault::NoMemory);
         };
         if let Some(fault) = self.full(0, Some(&fresh), 0) {
@@ -255,8 +271,8 @@ impl<D: Disk> Book<D> {
         requires known { has_space self.old.cache.index space.now ≡ true }
         requires there { option_map (λ found. found.row.at) (blob_at self.old.cache.index space.now (content_hash blob.now.bytes)) ≡ Some at }
         requires short { length blob.now.bytes ≤ most_bytes }
-        ensures gives { CommandGives self.old blob.now.bytes self.new (WithRoom self.old.cache.index (past_of self.old.steps) (UploadAs self.old.cache.index space.now blob.now hour)) result }
-        ensures goes_on { GoesOn D.tells D.meaning self.old self.new }
+        ensures gives { CommandGives D.meaning self.old blob.now.bytes self.new (WithRoom self.old.cache.index (past_of self.old.steps) (UploadAs self.old.cache.index space.now blob.now hour)) result }
+        ensures goes_on { GoesOn D.tells D.meaning self.old blob.now.bytes self.new }
         ensures cause { result ≡ Err StoreFault.DiskFailed → Rose (book_faults D.meaning self.old) (book_faults D.meaning self.new) }
     {
         let hour = self.hour_of(hour);
@@ -305,11 +321,11 @@ impl<D: Disk> Book<D> {
         requires known { has_space self.old.cache.index name.now.space ≡ true }
         requires absent { option_map (λ found. found.row.at) (blob_at self.old.cache.index name.now.space (content_hash object.bytes)) ≡ None }
         requires short { length object.bytes ≤ most_bytes }
-        ensures gives { CommandGives self.old object.bytes self.new (WithRoom self.old.cache.index (past_of self.old.steps) (PutAs self.old.cache.index name.now object hour)) result }
-        ensures goes_on { GoesOn D.tells D.meaning self.old self.new }
+        ensures gives { CommandGives D.meaning self.old object.bytes self.new (WithRoom self.old.cache.index (past_of self.old.steps) (PutAs self.old.cache.index name.now object hour)) result }
+        ensures goes_on { GoesOn D.tells D.meaning self.old object.bytes self.new }
         ensures cause { result ≡ Err StoreFault.DiskFailed → Rose (book_faults D.meaning self.old) (book_faults D.meaning self.new) }
     {
-        let Ok(fresh) = stored(alloc, &object) else {
+        let Ok(fresh) = self.stored(alloc, &object) else {
             return Err(StoreFault::NoMemory);
         };
         if let Some(fault) = self.full(0, Some(&fresh), self.added_refs(name)) {
@@ -337,8 +353,8 @@ impl<D: Disk> Book<D> {
         requires known { has_space self.old.cache.index name.now.space ≡ true }
         requires there { is_some (option_map (λ found. found.row.at) (blob_at self.old.cache.index name.now.space (content_hash object.now.bytes))) ≡ true }
         requires short { length object.now.bytes ≤ most_bytes }
-        ensures gives { CommandGives self.old object.now.bytes self.new (WithRoom self.old.cache.index (past_of self.old.steps) (PutAs self.old.cache.index name.now object.now hour)) result }
-        ensures goes_on { GoesOn D.tells D.meaning self.old self.new }
+        ensures gives { CommandGives D.meaning self.old object.now.bytes self.new (WithRoom self.old.cache.index (past_of self.old.steps) (PutAs self.old.cache.index name.now object.now hour)) result }
+        ensures goes_on { GoesOn D.tells D.meaning self.old object.now.bytes self.new }
         ensures cause { result ≡ Err StoreFault.DiskFailed → Rose (book_faults D.meaning self.old) (book_faults D.meaning self.new) }
     {
         if let Some(fault) = self.full(0, None, self.added_refs(name)) {
@@ -364,8 +380,8 @@ impl<D: Disk> Book<D> {
     ) -> Result<Rows<IoHash>, StoreFault>
         requires serves { IsServing D.tells D.meaning self.old }
         requires pending { is_done self.old.cache.index name.now hash ≡ Ok false }
-        ensures gives { CommandGives self.old [] self.new (WithRoom self.old.cache.index (past_of self.old.steps) (FinaliseAs self.old.cache.index name.now hash hour)) result }
-        ensures goes_on { GoesOn D.tells D.meaning self.old self.new }
+        ensures gives { CommandGives D.meaning self.old [] self.new (WithRoom self.old.cache.index (past_of self.old.steps) (FinaliseAs self.old.cache.index name.now hash hour)) result }
+        ensures goes_on { GoesOn D.tells D.meaning self.old [] self.new }
         ensures cause { result ≡ Err StoreFault.DiskFailed → Rose (book_faults D.meaning self.old) (book_faults D.meaning self.new) }
     {
         let Ok(missing) = self.missing(alloc, &name.space, hash) else {
@@ -405,18 +421,4 @@ fn hash_of(blob: &Checked) -> IoHash
     ensures read { IsContent blob.now }
 {
     blob.whole().hash()
-}
-
-// What an entry says of a blob.
-fn stored(alloc: Global, blob: &Checked) -> Result<Stored, NoMemory>
-    ensures stored { IfOk result (λ fresh. fresh ≡ stored_content blob.now) }
-    ensures read { IsContent blob.now }
-{
-    let links = Vec::from_slice(alloc, blob.links())?;
-    Ok(Stored {
-        hash: hash_of(blob),
-        len: blob.whole().bytes().len() as u64,
-        start: 0,
-        links: Rows::of_vec(links),
-    })
 }

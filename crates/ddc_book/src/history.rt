@@ -3,16 +3,13 @@
 ghost use Rattle.std.specs.Prelude.{◌≡◌, ◌++◌, ◌∷◌, [], true, None, Some, length, IfOk, OnErr, OnOk};
 ghost use Rattle.ddc_model.specs.declared.entry.Step.TheVariants.{Loaded, Change, Broke};
 ghost use Rattle.ddc_model.specs.Counts.{added_links, fresh_of};
-ghost use Rattle.ddc_model.specs.Entries.{legal};
-ghost use Rattle.ddc_model.specs.Commands.{changed};
-ghost use Rattle.ddc_model.specs.Sound.{HasBytes};
+ghost use Rattle.ddc_model.specs.Entries.{after, legal};
 ghost use Rattle.ddc_model.specs.History.{broken_by, no_room, past_of};
-ghost use Rattle.ddc_opening.specs.Tables.{bytes_or_none, cache_of, Brings};
 
 use ddc_model::{Entry, Limits, Step};
 use ddc_names::{NoMemory, Rows};
-use ddc_opening::{Tables, fresh_of};
-use io_hash::Whole;
+use ddc_opening::fresh_of;
+use ddc_state::Index;
 use std::alloc::Global;
 use std::marker::Model;
 
@@ -55,7 +52,7 @@ impl History {
         })
     }
 
-    /// Makes an entry with the blob that it adds, and its step.
+    /// Makes an entry, and its step.
     ///
     /// # Errors
     ///
@@ -63,36 +60,34 @@ impl History {
     pub(crate) fn make(
         &mut self,
         alloc: Global,
-        tables: &mut Tables,
+        index: &mut Index,
         entry: Entry,
-        blob: Option<Whole>,
     ) -> Result<(), NoMemory>
         requires unbroken { broken_by self.old ≡ None }
-        requires legal { legal tables.old.index.state entry ≡ true }
-        requires room { no_room tables.old.index.state (past_of self.old) entry ≡ None }
-        requires brings { Brings (fresh_of entry) blob }
-        requires has_bytes { HasBytes (cache_of tables.old) }
-        ensures cache { OnOk result (cache_of tables.new ≡ changed (cache_of tables.old) (bytes_or_none blob) (Some entry)) }
+        requires legal { legal index.old.state entry ≡ true }
+        requires room { no_room index.old.state (past_of self.old) entry ≡ None }
+        ensures index { OnOk result (index.new.state ≡ after index.old.state entry) }
         ensures steps { OnOk result (self.new ≡ self.old ++ Change entry ∷ []) }
-        ensures err { OnErr result ((cache_of tables.new ≡ cache_of tables.old) × (self.new ≡ self.old)) }
+        ensures reads { index.new.reads ≡ index.old.reads }
+        ensures err { OnErr result ((index.new ≡ index.old) × (self.new ≡ self.old)) }
     {
         // an entry that has room keeps the counts within these, which have 64 bits
-        let _limits = tables.index.limits();
+        let _limits = index.limits();
         self.steps.reserve(2)?;
-        tables.make(alloc, &entry, blob)?;
+        index.apply(alloc, &entry)?;
         self.entries += 1;
         self.links += added_links_of(&entry);
         self.steps.push_reserved(Step::Change(entry));
         Ok(())
     }
 
-    /// Notes that a call failed at the disks while its entry was written.
-    pub(crate) fn note_broken(&mut self, before: u64, now: u64)
+    /// Notes that a call failed at the disks, where its entry was made or none was.
+    pub(crate) fn note_broken(&mut self, changed: bool, before: u64, now: u64)
         requires { broken_by self.old ≡ None }
-        ensures { self.new ≡ self.old ++ Broke true before now ∷ [] }
+        ensures { self.new ≡ self.old ++ Broke changed before now ∷ [] }
     {
         self.steps.push_reserved(Step::Broke {
-            changed: true,
+            changed,
             before,
             now,
         });

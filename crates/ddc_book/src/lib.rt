@@ -1,8 +1,8 @@
 //! A store that survives a crash: namespaces, blobs and references over three handed-in devices.
 //!
-//! Each change is one entry of the journal, followed by the bytes of the blob that it adds. A call takes all its
-//! memory, makes its step and the new index, and only then writes. A crash at any moment of a call leaves devices that
-//! open to the state before the call or after it.
+//! Each change is one entry of the journal. The bytes of a blob that it adds are written to the blob file and made sure of
+//! before it, and no bytes of blobs stay in memory. A call takes all its memory, makes its step and the new index, and only
+//! then writes. A crash at any moment of a call leaves devices that open to the state before the call or after it.
 #![tactic(auto)]
 
 mod book;

@@ -1,12 +1,14 @@
 //! How a book is made, or opened.
 
-ghost use Rattle.std.specs.Prelude.{◌≡◌, ◌⊎◌, ◌≤◌, ◌^◌, IfErr, IfOk, IfSome};
+ghost use Rattle.std.specs.Prelude.{◌≡◌, ◌⊎◌, ◌≤◌, ◌^◌, IsTrue, IfErr, IfOk};
 ghost use Rattle.ddc_names.specs.Causes.{Rose};
+ghost use Rattle.ddc_disk.specs.Disk.{EachImage};
 ghost use Rattle.ddc_disk.specs.Images.{devices_faults, devices_line};
+ghost use Rattle.ddc_journal.specs.Pairs.{IfBoth};
 ghost use Rattle.ddc_opening.specs.Loading.{AsBefore, Creates, IsOpenStore};
-ghost use Rattle.ddc_opening.specs.Opening.{OpenFaultOf};
-ghost use Rattle.ddc_opening.specs.Tables.{cache_of};
-ghost use Rattle.ddc_book.specs.Loading.{HasOpened, IsCreated, IsLoaded};
+ghost use Rattle.ddc_opening.specs.Opening.{OpenFaultOf, OpensAs};
+ghost use Rattle.ddc_book.specs.Loading.{AreSure, HasOpened, IsCreated, IsLoaded};
+ghost use Rattle.ddc_book.specs.View.{book_line, told_cache};
 
 use crate::history::History;
 use crate::{Book, OpenFault};
@@ -29,7 +31,7 @@ impl<D: Disk> Book<D> {
     ) -> Result<Book<D>, (Devices<D>, OpenFault)>
         requires kept { 1 ≤ limits.kept }
         requires units { limits.units ≤ 2 ^ 51 }
-        ensures created { IfOk result (λ book. IsCreated D.meaning devices limits book) }
+        ensures created { IfOk result (λ book. IsCreated D.tells D.meaning devices limits book) }
         ensures any_moment { IfErr result (λ r. Creates D.meaning devices limits r.0) }
         ensures fault { IfErr result (λ r. ((r.1 ≡ OpenFault.DiskFailed) × Rose (devices_faults D.meaning devices) (devices_faults D.meaning r.0)) ⊎ (r.1 ≡ OpenFault.NoMemory)) }
     {
@@ -47,8 +49,8 @@ impl<D: Disk> Book<D> {
     ///
     /// # Errors
     ///
-    /// The devices come back with the fault: `NotMade`, `Corrupt`, `BadVersion` and `Unsound` exactly by what the first
-    /// file holds, `DiskFailed` where a device failed, and `NoMemory`.
+    /// The devices come back with the fault: `NotMade`, `Corrupt`, `BadVersion` and `Unsound` exactly by what the two
+    /// journal files hold, `DiskFailed` where a device failed, and `NoMemory`.
     pub fn load(
         alloc: Global,
         devices: Devices<D>,
@@ -56,9 +58,9 @@ impl<D: Disk> Book<D> {
     ) -> Result<Book<D>, (Devices<D>, OpenFault)>
         requires kept { 1 ≤ limits.kept }
         requires units { limits.units ≤ 2 ^ 51 }
-        ensures loaded { IfOk result (λ book. IsLoaded D.meaning devices limits book) }
+        ensures loaded { IfOk result (λ book. IsLoaded D.tells D.meaning devices limits book) }
         ensures fault { IfErr result (λ r. ((r.1 ≡ OpenFault.DiskFailed) × Rose (devices_faults D.meaning devices) (devices_faults D.meaning r.0))
-            ⊎ IfSome (D.meaning devices.first).held (λ file. OpenFaultOf limits file r.1)) }
+            ⊎ IfBoth D.meaning devices (λ first second. OpenFaultOf limits first second r.1)) }
         ensures cause { IfErr result (λ r. r.1 ≡ OpenFault.DiskFailed → Rose (devices_faults D.meaning devices) (devices_faults D.meaning r.0)) }
         ensures back { IfErr result (λ r. AsBefore D.meaning devices r.0) }
     {
@@ -78,26 +80,25 @@ impl<D: Disk> Book<D> {
         store: OpenedStore,
         limits: Limits,
     ) -> Result<Book<D>, Devices<D>>
-        requires { IsOpenStore D.tells (D.meaning devices.first) limits (cache_of store.tables) store.steps.items store.journal }
+        requires opened { IsOpenStore D.tells D.meaning devices limits store.pair store.index.state store.steps.items }
+        requires units { limits.units ≤ 2 ^ 51 }
         ensures devices { IfOk result (λ book. book.devices ≡ devices) }
-        ensures cache { IfOk result (λ book. book.cache ≡ cache_of store.tables) }
-        ensures steps { IfOk result (λ book. HasOpened limits book.steps) }
+        ensures cache { IfOk result (λ book. book.cache ≡ told_cache D.tells D.meaning devices store.index.state) }
+        ensures steps { IfOk result (λ book. HasOpened D.meaning book store.steps.items) }
+        ensures sure { IfOk result (λ book. IsTrue D.tells → AreSure D.meaning book.devices) }
+        ensures opens { IfOk result (λ book. IsTrue D.tells → EachImage (book_line D.meaning book) (λ im. OpensAs limits im book.cache)) }
         ensures opened { IfOk result (λ book. book.opened ≡ (devices_line D.meaning devices).moment) }
         ensures back { IfErr result (λ back. back ≡ devices) }
     {
         one_opening();
-        let OpenedStore {
-            journal,
-            tables,
-            steps,
-        } = store;
+        let OpenedStore { pair, index, steps } = store;
         match History::opened(steps, limits, devices.faults()) {
             Ok(history) => {
                 let opened = devices.moment();
                 Ok(Book {
                     devices,
-                    journal,
-                    tables,
+                    pair,
+                    index,
                     history,
                     opened,
                 })

@@ -1,20 +1,29 @@
 //! The commands that read a store.
 
-ghost use Rattle.std.specs.Prelude.{◌≡◌, ◌⊎◌, Err, IfOk};
+ghost use Rattle.std.specs.Prelude.{◌≡◌, ◌⊎◌, ◌≤◌, ◌^◌, [], ℕ, List, Some, Err, IfErr, IfOk, IfSome, OnOk, length, option_map};
 ghost use Rattle.std.specs.List.Sorted.{IsStrictlySortedBy};
-ghost use Rattle.std.specs.Result.{result_map_both};
+ghost use Rattle.ddc_names.specs.Causes.{Rose};
 ghost use Rattle.ddc_names.specs.Orders.{io_hash_cmp};
-ghost use Rattle.ddc_model.specs.Commands.{fetch};
+ghost use Rattle.ddc_disk.specs.Disk.{IsSure};
+ghost use Rattle.ddc_disk.specs.Images.{devices_faults};
+ghost use Rattle.blob_store.specs.Bytes.{bytes_from, first_byte, LieIn};
+ghost use Rattle.ddc_model.specs.State.{blob_at};
+ghost use Rattle.ddc_model.specs.Extents.{IsPlaced};
+ghost use Rattle.ddc_model.specs.Commands.{MayRead};
 ghost use Rattle.ddc_model.specs.History.{unless_broken};
-ghost use Rattle.ddc_model.specs.Reads.{length_at, peek, serve, verify, AreAbsent};
-ghost use Rattle.ddc_book.specs.Calls.{IsExist, opened_bytes};
+ghost use Rattle.ddc_model.specs.Reads.{length_at, peek, undamaged, AreAbsent, ServesAs, VerifiesAs};
+ghost use Rattle.ddc_opening.specs.Loading.{AsBefore};
+ghost use Rattle.ddc_book.specs.Calls.{opened_bytes, BreaksReading, GoesOn, IsExist, Only, ReaderGives, Stays};
+ghost use Rattle.ddc_book.specs.inside.Making.{IsServing};
+ghost use Rattle.ddc_book.specs.View.{book_faults};
 
 use crate::Book;
-use ddc_disk::Disk;
-use ddc_model::{BlobName, StoreFault};
-use ddc_names::{ByteList, IoHash, Namespace, NoMemory, RefName, Rows};
+use blob_store::read_piece;
+use ddc_disk::{Disk, HeldDevices};
+use ddc_model::{BlobRow, Extent, StoreFault};
+use ddc_names::{ByteList, Failed, IoHash, Namespace, NoMemory, RefName, Rows};
 use ddc_state::Index;
-use io_hash::Whole;
+use io_hash::io_hash_of;
 use std::alloc::Global;
 use std::collections::BTreeSet;
 
@@ -48,7 +57,7 @@ impl<D: Disk> Book<D> {
             Ok(hash) => hash,
             Err(fault) => return Err(fault),
         };
-        match self.tables.index.blob(&name.space, &hash) {
+        match self.index.blob(&name.space, &hash) {
             Some(row) => Ok((hash, row.len)),
             None => Err(StoreFault::NotFound),
         }
@@ -68,7 +77,7 @@ impl<D: Disk> Book<D> {
         if !self.has_space(space) {
             return Err(StoreFault::UnknownSpace);
         }
-        match self.tables.index.blob(space, &hash) {
+        match self.index.blob(space, &hash) {
             Some(row) => Ok(row.len),
             None => Err(StoreFault::NotFound),
         }
@@ -78,21 +87,19 @@ impl<D: Disk> Book<D> {
     ///
     /// # Errors
     ///
-    /// `Broken`, `UnknownSpace`, `NotFound` of the blob, `NoMemory` for the copy, or `Damaged` where its bytes have
-    /// another hash.
+    /// `Broken`, `UnknownSpace`, `NotFound` of the blob, `NoMemory`, `DiskFailed`, or `Damaged` where its bytes have
+    /// another hash. The book is as before, but after `DiskFailed`.
     pub fn open_blob(
         &mut self,
         alloc: Global,
         space: &Namespace,
         hash: IoHash,
     ) -> Result<Opened, StoreFault>
-        ensures gives { (result ≡ Err StoreFault.NoMemory) ⊎ (opened_bytes result ≡ unless_broken self.old.steps (serve self.old.cache space.now hash)) }
-        ensures same { self.new ≡ self.old }
+        ensures gives { ReaderGives D.meaning self.old self.new (Only (λ answer. ServesAs self.old.cache space.now hash (opened_bytes answer))) result }
+        ensures goes_on { GoesOn D.tells D.meaning self.old [] self.new }
+        ensures cause { result ≡ Err StoreFault.DiskFailed → Rose (book_faults D.meaning self.old) (book_faults D.meaning self.new) }
     {
-        if let Some(faults) = self.broken() {
-            return Err(StoreFault::Broken { faults });
-        }
-        match self.copied(alloc, space, hash) {
+        match self.read_blob(alloc, space, hash) {
             Ok(bytes) => Ok(Opened::Whole(bytes)),
             Err(fault) => Err(fault),
         }
@@ -117,7 +124,7 @@ impl<D: Disk> Book<D> {
         if !self.has_space(space) {
             return Err(StoreFault::UnknownSpace);
         }
-        match absent(alloc, &self.tables.index, space, hashes) {
+        match absent(alloc, &self.index, space, hashes) {
             Ok(list) => Ok(list),
             Err(NoMemory) => Err(StoreFault::NoMemory),
         }
@@ -127,71 +134,121 @@ impl<D: Disk> Book<D> {
     ///
     /// # Errors
     ///
-    /// `Broken`, `UnknownSpace`, `NotFound` of the blob, or `Damaged` where its bytes have another hash.
-    pub fn verify(&mut self, space: &Namespace, hash: IoHash) -> Result<(), StoreFault>
-        ensures gives { result ≡ unless_broken self.old.steps (verify self.old.cache space.now hash) }
-        ensures same { self.new ≡ self.old }
+    /// `Broken`, `UnknownSpace`, `NotFound` of the blob, `NoMemory`, `DiskFailed`, or `Damaged` where its bytes have
+    /// another hash. The book is as before, but after `DiskFailed`.
+    pub fn verify(
+        &mut self,
+        alloc: Global,
+        space: &Namespace,
+        hash: IoHash,
+    ) -> Result<(), StoreFault>
+        ensures gives { ReaderGives D.meaning self.old self.new (Only (VerifiesAs self.old.cache space.now hash)) result }
+        ensures goes_on { GoesOn D.tells D.meaning self.old [] self.new }
+        ensures cause { result ≡ Err StoreFault.DiskFailed → Rose (book_faults D.meaning self.old) (book_faults D.meaning self.new) }
     {
-        if let Some(faults) = self.broken() {
-            return Err(StoreFault::Broken { faults });
-        }
-        match self.undamaged(space, hash) {
+        match self.read_blob(alloc, space, hash) {
             Ok(_) => Ok(()),
             Err(fault) => Err(fault),
         }
     }
 }
 
-// The bytes that are stored.
+// The bytes that stand in an extent.
+fn read_extent<D: Disk>(
+    alloc: Global,
+    devices: &mut HeldDevices<D>,
+    extent: Extent,
+    len: u64,
+) -> Result<Vec<u8>, StoreFault>
+    requires { LieIn extent 0 len }
+    ensures length { IfOk result (λ bytes. length bytes.items ≡ len) }
+    ensures bytes { IfOk result (λ bytes. IfSome (D.meaning devices.old.blobs).held (λ file. bytes.items ≡ bytes_from file (first_byte extent) len)) }
+    ensures fault { IfErr result (λ fault. ((fault ≡ StoreFault.DiskFailed) × Rose (devices_faults D.meaning devices.old) (devices_faults D.meaning devices.new)) ⊎ (fault ≡ StoreFault.NoMemory)) }
+    ensures first { devices.new.first ≡ devices.old.first }
+    ensures second { devices.new.second ≡ devices.old.second }
+    ensures sure { (file : List ℕ) → IsSure (D.meaning devices.old.blobs) file → IsSure (D.meaning devices.new.blobs) file }
+    ensures as_before { AsBefore D.meaning devices.old devices.new }
+    ensures same { OnOk result (devices_faults D.meaning devices.old ≡ devices_faults D.meaning devices.new) }
+{
+    let mut bytes = Vec::new(alloc);
+    if bytes.resize(len as usize, 0).is_err() {
+        return Err(StoreFault::NoMemory);
+    }
+    match read_piece(devices.blobs(), extent, 0, &mut bytes) {
+        Ok(()) => Ok(bytes),
+        Err(Failed) => Err(StoreFault::DiskFailed),
+    }
+}
+
+// The bytes of blobs.
 impl<D: Disk> Book<D> {
-    fn fetch(&self, space: &Namespace, hash: &IoHash) -> Result<&Whole, StoreFault>
-        ensures { result_map_both (λ blob. blob.now) (λ fault. fault) result ≡ fetch self.now.cache space.now hash.now }
-    {
-        if !self.has_space(space) {
-            return Err(StoreFault::UnknownSpace);
-        }
-        let name = BlobName {
-            space: *space,
-            hash: *hash,
-        };
-        match self.tables.bytes.get(&name) {
-            Some(blob) => Ok(blob),
-            None => Err(StoreFault::NotFound),
-        }
-    }
-
     // The bytes of a blob, where they have its hash.
-    fn undamaged(&self, space: &Namespace, hash: IoHash) -> Result<&Whole, StoreFault>
-        ensures { result_map_both (λ blob. blob.now) (λ fault. fault) result ≡ serve self.now.cache space.now hash }
-    {
-        let blob = match self.fetch(space, &hash) {
-            Ok(blob) => blob,
-            Err(fault) => return Err(fault),
-        };
-        let found = blob.hash();
-        if found == hash {
-            Ok(blob)
-        } else {
-            Err(StoreFault::Damaged { named: hash, found })
-        }
-    }
-
-    // A copy of them.
-    pub(crate) fn copied(
-        &self,
+    pub(crate) fn read_blob(
+        &mut self,
         alloc: Global,
         space: &Namespace,
         hash: IoHash,
     ) -> Result<ByteList, StoreFault>
-        ensures { (result ≡ Err StoreFault.NoMemory) ⊎ (result ≡ serve self.now.cache space.now hash) }
+        ensures gives { ReaderGives D.meaning self.old self.new (Only (ServesAs self.old.cache space.now hash)) result }
+        ensures goes_on { GoesOn D.tells D.meaning self.old [] self.new }
+        ensures serves { IfOk result (λ _. IsServing D.tells D.meaning self.new) }
+        ensures same { OnOk result (book_faults D.meaning self.old ≡ book_faults D.meaning self.new) }
+        ensures cause { result ≡ Err StoreFault.DiskFailed → Rose (book_faults D.meaning self.old) (book_faults D.meaning self.new) }
     {
-        match self.undamaged(space, hash) {
-            Err(fault) => Err(fault),
-            Ok(blob) => match Vec::from_slice(alloc, blob.bytes()) {
-                Ok(bytes) => Ok(ByteList::of_vec(bytes)),
-                Err(_) => Err(StoreFault::NoMemory),
-            },
+        if let Some(faults) = self.broken() {
+            return Err(StoreFault::Broken { faults });
         }
+        if !self.has_space(space) {
+            return Err(StoreFault::UnknownSpace);
+        }
+        let Some(row) = self.index.blob(space, &hash) else {
+            return Err(StoreFault::NotFound);
+        };
+        match self.read_row(alloc, space, hash, row) {
+            Ok(bytes) => undamaged(hash, bytes),
+            Err(fault) => Err(fault),
+        }
+    }
+
+    // The bytes of a blob that is there, whatever their hash is.
+    fn read_row(
+        &mut self,
+        alloc: Global,
+        space: &Namespace,
+        hash: IoHash,
+        row: BlobRow,
+    ) -> Result<Vec<u8>, StoreFault>
+        requires serves { IsServing D.tells D.meaning self.old }
+        requires placed { IsPlaced self.old.cache.index }
+        requires low { self.old.cache.index.limits.units ≤ 2 ^ 51 }
+        requires there { option_map (λ blob. blob.row) (blob_at self.old.cache.index space.now hash) ≡ Some row }
+        ensures bytes { IfOk result (λ bytes. MayRead self.old.cache space.now hash bytes.items × Stays D.meaning self.old self.new × IsServing D.tells D.meaning self.new) }
+        ensures fault { IfErr result (λ fault. ((fault ≡ StoreFault.DiskFailed) × BreaksReading D.meaning self.old self.new × Rose (book_faults D.meaning self.old) (book_faults D.meaning self.new)) ⊎ ((fault ≡ StoreFault.NoMemory) × Stays D.meaning self.old self.new)) }
+        ensures same { OnOk result (book_faults D.meaning self.old ≡ book_faults D.meaning self.new) }
+        ensures goes_on { GoesOn D.tells D.meaning self.old [] self.new }
+    {
+        let before = self.devices.faults();
+        match read_extent(alloc, &mut self.devices, row.extent, row.len) {
+            Ok(bytes) => Ok(bytes),
+            Err(StoreFault::DiskFailed) => {
+                self.history
+                    .note_broken(false, before, self.devices.faults());
+                Err(StoreFault::DiskFailed)
+            }
+            Err(_) => Err(StoreFault::NoMemory),
+        }
+    }
+}
+
+// These bytes, where they have this hash.
+fn undamaged(hash: IoHash, bytes: Vec<u8>) -> Result<ByteList, StoreFault>
+    ensures { result ≡ undamaged hash bytes.items }
+{
+    let found = io_hash_of(&bytes);
+    if found == hash {
+        Ok(ByteList::of_vec(bytes))
+    } else {
+        Err(StoreFault::Damaged { named: hash, found })
     }
 }
 

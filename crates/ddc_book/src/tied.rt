@@ -8,11 +8,11 @@ ghost use Rattle.ddc_model.specs.Limits.{most_bytes};
 ghost use Rattle.ddc_model.specs.Entries.{is_time};
 ghost use Rattle.ddc_model.specs.Commands.{SpaceAs, UploadAs, PutAs, FinaliseAs};
 ghost use Rattle.ddc_model.specs.History.{broken_by, past_of, unless_broken, WithRoom};
-ghost use Rattle.ddc_model.specs.Reads.{length_at, peek, serve, verify, DeleteAs, HeldAs};
-ghost use Rattle.ddc_book.specs.Calls.{got, opened_bytes, CommandGives, GoesOn, IsExist};
+ghost use Rattle.ddc_model.specs.Reads.{length_at, peek, ServesAs, VerifiesAs, DeleteAs, HeldAs};
+ghost use Rattle.ddc_book.specs.Calls.{got, opened_bytes, CommandGives, ReaderGives, Only, GoesOn, IsExist};
 ghost use Rattle.ddc_opening.specs.Opening.{OpensAs};
 ghost use Rattle.ddc_book.specs.Tied.{GoesOnFrom};
-ghost use Rattle.ddc_book.specs.View.{book_faults, limits_of, IsHonest, EachFrom, OpensSome};
+ghost use Rattle.ddc_book.specs.View.{book_faults, limits_of, opened_count, sure_count, IsHonest, EachFrom, OpensFrom};
 
 use crate::{Book, Held, Opened};
 use ddc_disk::{Devices, Disk};
@@ -69,7 +69,8 @@ impl<D: Disk, K: Opening> Tied<D, K> {
         ensures devices { result ≡ self.devices }
         ensures tied { GoesOnFrom K.start D.meaning result }
         ensures opened { IsTrue D.tells → broken_by self.steps ≡ None → EachImage (devices_line D.meaning result) (λ im. OpensAs (limits_of self) im self.cache) }
-        ensures since { IsHonest D.tells (devices_line D.meaning result) (limits_of self) self.opened → EachFrom (devices_line D.meaning result) self.opened (OpensSome (limits_of self) self.steps) }
+        ensures since { IsHonest D.tells (devices_line D.meaning result) (limits_of self) self.opened → EachFrom (devices_line D.meaning result) self.opened (OpensFrom (opened_count self.steps) (limits_of self) self.steps) }
+        ensures last { IsHonest D.tells (devices_line D.meaning result) (limits_of self) self.opened → EachImage (devices_line D.meaning result) (OpensFrom (sure_count self.steps) (limits_of self) self.steps) }
     {
         let Tied { book, of: _ } = self;
         book.into_devices()
@@ -77,7 +78,8 @@ impl<D: Disk, K: Opening> Tied<D, K> {
 
     /// The index.
     pub fn index(&self) -> &Index
-        ensures { result.now.state ≡ self.now.cache.index }
+        ensures state { result.now.state ≡ self.now.cache.index }
+        ensures reads { result.now.reads ≡ self.now.reads }
     {
         self.book.index()
     }
@@ -116,8 +118,8 @@ impl<D: Disk, K: Opening> Tied<D, K> {
     ) -> Result<(), StoreFault>
         requires ttl { is_time ttl ≡ true }
         requires pin { is_time pin ≡ true }
-        ensures gives { CommandGives self.old [] self.new (WithRoom self.old.cache.index (past_of self.old.steps) (SpaceAs self.old.cache.index space ttl pin)) result }
-        ensures goes_on { GoesOn D.tells D.meaning self.old self.new }
+        ensures gives { CommandGives D.meaning self.old [] self.new (WithRoom self.old.cache.index (past_of self.old.steps) (SpaceAs self.old.cache.index space ttl pin)) result }
+        ensures goes_on { GoesOn D.tells D.meaning self.old [] self.new }
         ensures cause { result ≡ Err StoreFault.DiskFailed → Rose (book_faults D.meaning self.old) (book_faults D.meaning self.new) }
     {
         self.book.set_space(alloc, space, ttl, pin)
@@ -132,8 +134,8 @@ impl<D: Disk, K: Opening> Tied<D, K> {
         hour: u32,
     ) -> Result<(), StoreFault>
         requires { length blob.bytes ≤ most_bytes }
-        ensures gives { CommandGives self.old blob.bytes self.new (WithRoom self.old.cache.index (past_of self.old.steps) (UploadAs self.old.cache.index space blob hour)) result }
-        ensures goes_on { GoesOn D.tells D.meaning self.old self.new }
+        ensures gives { CommandGives D.meaning self.old blob.bytes self.new (WithRoom self.old.cache.index (past_of self.old.steps) (UploadAs self.old.cache.index space blob hour)) result }
+        ensures goes_on { GoesOn D.tells D.meaning self.old blob.bytes self.new }
         ensures cause { result ≡ Err StoreFault.DiskFailed → Rose (book_faults D.meaning self.old) (book_faults D.meaning self.new) }
     {
         self.book.upload(alloc, space, blob, hour)
@@ -149,8 +151,8 @@ impl<D: Disk, K: Opening> Tied<D, K> {
     ) -> Result<Rows<IoHash>, StoreFault>
         requires is_object { object.is_object ≡ true }
         requires short { length object.bytes ≤ most_bytes }
-        ensures gives { CommandGives self.old object.bytes self.new (WithRoom self.old.cache.index (past_of self.old.steps) (PutAs self.old.cache.index name object hour)) result }
-        ensures goes_on { GoesOn D.tells D.meaning self.old self.new }
+        ensures gives { CommandGives D.meaning self.old object.bytes self.new (WithRoom self.old.cache.index (past_of self.old.steps) (PutAs self.old.cache.index name object hour)) result }
+        ensures goes_on { GoesOn D.tells D.meaning self.old object.bytes self.new }
         ensures cause { result ≡ Err StoreFault.DiskFailed → Rose (book_faults D.meaning self.old) (book_faults D.meaning self.new) }
     {
         self.book.put(alloc, name, object, hour)
@@ -164,8 +166,8 @@ impl<D: Disk, K: Opening> Tied<D, K> {
         hash: IoHash,
         hour: u32,
     ) -> Result<Rows<IoHash>, StoreFault>
-        ensures gives { CommandGives self.old [] self.new (WithRoom self.old.cache.index (past_of self.old.steps) (FinaliseAs self.old.cache.index name.now hash hour)) result }
-        ensures goes_on { GoesOn D.tells D.meaning self.old self.new }
+        ensures gives { CommandGives D.meaning self.old [] self.new (WithRoom self.old.cache.index (past_of self.old.steps) (FinaliseAs self.old.cache.index name.now hash hour)) result }
+        ensures goes_on { GoesOn D.tells D.meaning self.old [] self.new }
         ensures cause { result ≡ Err StoreFault.DiskFailed → Rose (book_faults D.meaning self.old) (book_faults D.meaning self.new) }
     {
         self.book.finalise(alloc, name, hash, hour)
@@ -173,8 +175,8 @@ impl<D: Disk, K: Opening> Tied<D, K> {
 
     /// See [`Book::get_ref`].
     pub fn get_ref(&mut self, alloc: Global, name: &RefName, hour: u32) -> Result<Held, StoreFault>
-        ensures gives { CommandGives self.old [] self.new (λ answer made. HeldAs self.old.cache (past_of self.old.steps) name.now hour (got answer) made) result }
-        ensures goes_on { GoesOn D.tells D.meaning self.old self.new }
+        ensures gives { ReaderGives D.meaning self.old self.new (λ answer made. HeldAs self.old.cache (past_of self.old.steps) name.now hour (got answer) made) result }
+        ensures goes_on { GoesOn D.tells D.meaning self.old [] self.new }
         ensures cause { result ≡ Err StoreFault.DiskFailed → Rose (book_faults D.meaning self.old) (book_faults D.meaning self.new) }
     {
         self.book.get_ref(alloc, name, hour)
@@ -182,8 +184,8 @@ impl<D: Disk, K: Opening> Tied<D, K> {
 
     /// See [`Book::delete`].
     pub fn delete(&mut self, alloc: Global, name: &RefName, hour: u32) -> Result<(), StoreFault>
-        ensures gives { CommandGives self.old [] self.new (WithRoom self.old.cache.index (past_of self.old.steps) (DeleteAs self.old.cache.index name.now hour)) result }
-        ensures goes_on { GoesOn D.tells D.meaning self.old self.new }
+        ensures gives { CommandGives D.meaning self.old [] self.new (WithRoom self.old.cache.index (past_of self.old.steps) (DeleteAs self.old.cache.index name.now hour)) result }
+        ensures goes_on { GoesOn D.tells D.meaning self.old [] self.new }
         ensures cause { result ≡ Err StoreFault.DiskFailed → Rose (book_faults D.meaning self.old) (book_faults D.meaning self.new) }
     {
         self.book.delete(alloc, name, hour)
@@ -213,8 +215,9 @@ impl<D: Disk, K: Opening> Tied<D, K> {
         space: &Namespace,
         hash: IoHash,
     ) -> Result<Opened, StoreFault>
-        ensures gives { (result ≡ Err StoreFault.NoMemory) ⊎ (opened_bytes result ≡ unless_broken self.old.steps (serve self.old.cache space.now hash)) }
-        ensures same { self.new ≡ self.old }
+        ensures gives { ReaderGives D.meaning self.old self.new (Only (λ answer. ServesAs self.old.cache space.now hash (opened_bytes answer))) result }
+        ensures goes_on { GoesOn D.tells D.meaning self.old [] self.new }
+        ensures cause { result ≡ Err StoreFault.DiskFailed → Rose (book_faults D.meaning self.old) (book_faults D.meaning self.new) }
     {
         self.book.open_blob(alloc, space, hash)
     }
@@ -232,10 +235,16 @@ impl<D: Disk, K: Opening> Tied<D, K> {
     }
 
     /// See [`Book::verify`].
-    pub fn verify(&mut self, space: &Namespace, hash: IoHash) -> Result<(), StoreFault>
-        ensures gives { result ≡ unless_broken self.old.steps (verify self.old.cache space.now hash) }
-        ensures same { self.new ≡ self.old }
+    pub fn verify(
+        &mut self,
+        alloc: Global,
+        space: &Namespace,
+        hash: IoHash,
+    ) -> Result<(), StoreFault>
+        ensures gives { ReaderGives D.meaning self.old self.new (Only (VerifiesAs self.old.cache space.now hash)) result }
+        ensures goes_on { GoesOn D.tells D.meaning self.old [] self.new }
+        ensures cause { result ≡ Err StoreFault.DiskFailed → Rose (book_faults D.meaning self.old) (book_faults D.meaning self.new) }
     {
-        self.book.verify(space, hash)
+        self.book.verify(alloc, space, hash)
     }
 }

@@ -1,7 +1,8 @@
 pub mod Noting
 pub mod Statuses
 pub mod Unopened
+pub mod Settling
+pub mod Finding
 pub mod Replaying
 pub mod Spaces
 pub mod Making
-pub mod Finding

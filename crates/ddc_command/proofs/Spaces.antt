@@ -1,5 +1,5 @@
 -- What making a namespace in a store answers, right after the store's opening.
-use Rattle.std.proofs.Common.{◌≡◌, ℕ, ◌+◌, Bool, true, false, List, Option, Some, None, Result, Ok, Err, refl, ◌∙◌, ap, subst, sym}
+use Rattle.std.proofs.Common.{◌≡◌, ℕ, ◌+◌, Bool, true, false, List, Option, Some, None, Result, Err, refl, ◌∙◌, ap, subst, sym}
 use Rattle.std.specs.Prelude.{IfSome, nat_lt, ◌||◌, if◌then◌else◌}
 use Rattle.ddc_model.specs.declared.rows.Limits.{Limits}
 use Rattle.ddc_model.specs.declared.entry.Entry.{Entry}
@@ -7,9 +7,9 @@ use Rattle.ddc_model.specs.declared.entry.Entry.TheVariants.{Space}
 use Rattle.ddc_model.specs.declared.fault.StoreFault.{StoreFault}
 use Rattle.ddc_model.specs.declared.fault.StoreFault.TheVariants.{Full, HistoryFull}
 use Rattle.ddc_model.specs.declared.fault.What.{What}
-use Rattle.ddc_model.specs.declared.fault.What.TheVariants.{Spaces, Blobs, Refs, Links}
+use Rattle.ddc_model.specs.declared.fault.What.TheVariants.{Spaces, Blobs, Refs, Links, Units}
 use Rattle.ddc_model.specs.State.{State}
-use Rattle.ddc_model.specs.Counts.{full, passes, added_spaces, added_blobs, added_refs, added_links, fresh_of, link_count}
+use Rattle.ddc_model.specs.Counts.{full, passes, added_spaces, added_blobs, added_refs, added_links, fresh_of, lacks_run, link_count}
 use Rattle.ddc_model.specs.Limits.{standard}
 use Rattle.ddc_model.specs.Commands.{unless, EntryWhere, SpaceAs}
 use Rattle.ddc_model.specs.History.{none_yet, no_room_for, RoomWhere, WithRoom}
@@ -37,14 +37,6 @@ pub with_space : (s : State) (space : List ℕ) (ttl pin : ℕ) (answer : Result
     → WithRoom s none_yet (SpaceAs s space ttl pin) answer made → SpaceAs s space ttl pin answer made
 with_space s space ttl pin answer made limits (wished, entry, answers, room) = room_where s space ttl pin wished answer entry made (full s (Space space ttl pin)) limits answers room
 
-made_where : (space : List ℕ) (ttl pin : ℕ) (made : Option Entry) (fault : Option StoreFault) → EntryWhere (unless fault (Some (Space space ttl pin))) (Ok tt) made → made ≡ Some (Space space ttl pin)
-made_where space ttl pin made None h = h.1
-made_where space ttl pin made (Some fault) h = cc h.0
-
--- a namespace that is made, is made by its entry
-pub space_made : (s : State) (space : List ℕ) (ttl pin : ℕ) (made : Option Entry) → SpaceAs s space ttl pin (Ok tt) made → made ≡ Some (Space space ttl pin)
-space_made s space ttl pin made h = made_where space ttl pin made (full s (Space space ttl pin)) h
-
 abbrev pub IsFull : StoreFault → Type 0
 IsFull fault = (what : What) × (limit : ℕ) × (fault ≡ Full what limit)
 
@@ -54,13 +46,15 @@ full_or false what limit rest h = h
 
 full_only : (s : State) (entry : Entry) → IfSome (full s entry) IsFull
 full_only s entry =
-    let links : Option StoreFault = if passes (link_count s) (added_links (fresh_of entry)) s.limits.links then Some (Full Links s.limits.links) else None in
+    let units : Option StoreFault = if lacks_run s (fresh_of entry) then Some (Full Units s.limits.units) else None in
+    let links : Option StoreFault = if passes (link_count s) (added_links (fresh_of entry)) s.limits.links then Some (Full Links s.limits.links) else units in
     let refs : Option StoreFault = if passes (len s.slots) (added_refs s entry) s.limits.refs then Some (Full Refs s.limits.refs) else links in
     let blobs : Option StoreFault = if passes (len s.blobs) (added_blobs (fresh_of entry)) s.limits.blobs then Some (Full Blobs s.limits.blobs) else refs in
     full_or (passes (len s.spaces) (added_spaces s entry) s.limits.spaces) Spaces s.limits.spaces blobs
     (full_or (passes (len s.blobs) (added_blobs (fresh_of entry)) s.limits.blobs) Blobs s.limits.blobs refs
     (full_or (passes (len s.slots) (added_refs s entry) s.limits.refs) Refs s.limits.refs links
-    (full_or (passes (link_count s) (added_links (fresh_of entry)) s.limits.links) Links s.limits.links None tt)))
+    (full_or (passes (link_count s) (added_links (fresh_of entry)) s.limits.links) Links s.limits.links units
+    (full_or (lacks_run s (fresh_of entry)) Units s.limits.units None tt))))
 
 refused_where : (space : List ℕ) (ttl pin : ℕ) (fault : StoreFault) (made : Option Entry) (cause : Option StoreFault) → IfSome cause IsFull → EntryWhere (unless cause (Some (Space space ttl pin))) (Err fault) made → (made ≡ None) × IsFull fault
 refused_where space ttl pin fault made None none h = cc h.0

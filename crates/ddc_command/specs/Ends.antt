@@ -1,24 +1,26 @@
 -- How a command ends, by what it was given.
-use Rattle.std.specs.Prelude.{◌≡◌, ◌≢◌, ◌⊎◌, ℕ, Bool, true, false, IsTrue, List, [], ◌++◌, Option, None, Some, Result, Ok, Err, IfSome, String, codes, decimal}
+use Rattle.std.specs.Prelude.{◌≡◌, ◌≢◌, ◌⊎◌, ℕ, Bool, IsTrue, List, [], ◌++◌, Option, None, Some, Result, Ok, Err, IfSome, String, codes, decimal}
 use Rattle.std.specs.declared.alloc.Global.{Global}
 use Rattle.std.specs.Io.KnownBytes.{Appends}
 use Rattle.ddc_link.specs.Writes.{AppendsFront}
 use Rattle.ddc_disk.specs.Disk.{Meaning, Timeline, EachImage, EachSince}
 use Rattle.ddc_disk.specs.Images.{Images, devices_faults, devices_line}
 use Rattle.ddc_disk.specs.declared.devices.Devices.{Devices}
-use Rattle.ddc_journal.specs.Journal.{is_made}
+use Rattle.ddc_journal.specs.Pairs.{IfBoth, NoneMade}
 use Rattle.ddc_model.specs.declared.entry.Entry.{Entry}
 use Rattle.ddc_model.specs.declared.fault.StoreFault.{StoreFault}
 use Rattle.ddc_model.specs.declared.fault.StoreFault.TheVariants.{Full}
 use Rattle.ddc_model.specs.declared.fault.StoreFault.TheVariants as faults
 use Rattle.ddc_model.specs.Limits.{standard}
-use Rattle.ddc_model.specs.Sound.{Cache, empty_cache, AreWhole}
+use Rattle.ddc_model.specs.State.{empty_state}
+use Rattle.ddc_model.specs.Sound.{Cache, empty_cache, AreWhole, IsSound}
 use Rattle.ddc_model.specs.Commands.{SpaceAs, changed}
-use Rattle.ddc_opening.specs.Opening.{HoldsCache, OpensAs, OpenFaultOf}
+use Rattle.ddc_opening.specs.Opening.{cache_in, HoldState, OpenFaultOf}
 use Rattle.ddc_opening.specs.Loading.{AsBefore, Creates}
 use Rattle.ddc_opening.specs.declared.fault.OpenFault.{OpenFault}
 use Rattle.ddc_opening.specs.declared.fault.OpenFault.TheVariants.{NotMade}
 use Rattle.ddc_opening.specs.declared.fault.OpenFault.TheVariants as open_faults
+use Rattle.ddc_book.specs.Calls.{OpensWhole}
 use Rattle.ddc_service.specs.declared.session.SessionEnd.{SessionEnd}
 use Rattle.ddc_service.specs.declared.session.SessionEnd.TheVariants.{DiskFailed}
 use Rattle.ddc_service.specs.Effects.{Effect, Bytes, Rises, MeetsNoFault, IsUntouched}
@@ -60,29 +62,46 @@ on_devices s before after = record { before = before; after = after; faults_befo
 abbrev pub DevicesRose : {D : Type 0} → Scene D → Type 0
 DevicesRose s = Rises (on_devices s s.old s.new)
 
--- what the first file held at first, where it tells that
-abbrev pub FirstHeld : {D : Type 0} → Scene D → (List ℕ → Type 0) → Type 0
-FirstHeld s P = IfSome (s.meaning s.old.first).held P
+-- what holds of what the two journal files held at first, where the devices tell that
+abbrev pub BothHeld : {D : Type 0} → Scene D → (List ℕ → List ℕ → Type 0) → Type 0
+BothHeld s P = IfBoth s.meaning s.old P
 
--- it is a store with this cache
+-- the devices hold a store with this cache: the journal leads to its state, and the blob file gives its bytes
+pub record HoldStore {D : Type 0} (tells : Bool) (meaning : D → Meaning) (devices : Devices D) (cache : Cache) : Type 0 where
+  pub state : IfBoth meaning devices (λ first second. HoldState standard first second cache.index)
+  pub bytes : IsTrue tells → IfSome (meaning devices.blobs).held (λ file. cache ≡ cache_in file cache.index)
+  pub whole : AreWhole cache.index
+
+-- they hold none, and the cache is empty
+pub record HoldNone {D : Type 0} (tells : Bool) (meaning : D → Meaning) (devices : Devices D) (cache : Cache) : Type 0 where
+  pub none : IfBoth meaning devices NoneMade
+  pub state : cache.index ≡ empty_state standard
+  pub empty : IsTrue tells → cache ≡ empty_cache standard
+
+-- they held a store with this cache
 abbrev pub HeldStore : {D : Type 0} → Scene D → Cache → Type 0
-HeldStore s cache = FirstHeld s (λ file. HoldsCache standard file cache) × AreWhole cache.index
+HeldStore s cache = HoldStore s.tells s.meaning s.old cache
 
--- no store is made, and the cache is empty
-abbrev pub IsEmptyUnmade : Cache → Images → Type 0
-IsEmptyUnmade cache im = (cache ≡ empty_cache standard) × (is_made im.first ≡ false)
-
--- it is a store with this cache, or none is made, and the cache is empty
+-- or none, and the cache is empty
 abbrev pub HeldOrEmpty : {D : Type 0} → Scene D → Cache → Type 0
-HeldOrEmpty s cache = HeldStore s cache ⊎ (FirstHeld s (λ file. is_made file ≡ false) × (cache ≡ empty_cache standard))
+HeldOrEmpty s cache = HoldStore s.tells s.meaning s.old cache ⊎ HoldNone s.tells s.meaning s.old cache
 
--- the devices tell what they hold, nothing is pending on them, and what they hold opens to this cache
+-- no store is made on an image, and the cache is empty
+abbrev pub IsEmptyUnmade : Cache → Images → Type 0
+IsEmptyUnmade cache im = (cache ≡ empty_cache standard) × NoneMade im.first im.second
+
+-- the devices tell what they hold, and each image at first opens to this cache, with each blob to its end
 abbrev pub OpensTo : {D : Type 0} → Scene D → Cache → Type 0
-OpensTo s cache = IsTrue s.tells × EachImage (line_before s) (λ im. OpensAs standard im cache)
+OpensTo s cache = IsTrue s.tells × EachImage (line_before s) (λ im. OpensWhole standard im cache)
 
 -- the same, or no store is made, and the cache is empty
 abbrev pub StartsFrom : {D : Type 0} → Scene D → Cache → Type 0
-StartsFrom s cache = IsTrue s.tells × EachImage (line_before s) (λ im. OpensAs standard im cache ⊎ IsEmptyUnmade cache im)
+StartsFrom s cache = IsTrue s.tells × EachImage (line_before s) (λ im. OpensWhole standard im cache ⊎ IsEmptyUnmade cache im)
+
+-- an image opens to this cache, with each blob to its end, and the cache is sound where the one at the start was
+pub record OpensAfter (start : Cache) (im : Images) (cache : Cache) : Type 0 where
+  pub opens : OpensWhole standard im cache
+  pub sound : IsSound start → IsSound cache
 
 -- nothing was taken from the source, nor written to the sink
 abbrev pub IsQuiet : {D : Type 0} → Scene D → Type 0
@@ -90,12 +109,12 @@ IsQuiet s = IsUntouched s.source × IsUntouched s.sink
 
 -- ---- a store that isn't opened
 
--- the fault is that of what the first file holds, or a disk failed; `init` makes a store where none is made
+-- the fault is that of what the two journal files held, or a disk failed; `init` makes a store where none is made
 abbrev pub Unopens : {D : Type 0} → Scene D → Option Command → OpenFault → Type 0
 Unopens s command open_faults.DiskFailed = DevicesRose s
 Unopens s command open_faults.NoMemory = Unit {0}
-Unopens s command NotMade = FirstHeld s (λ file. OpenFaultOf standard file NotMade) × (command ≡ Some Replay)
-Unopens s command fault = FirstHeld s (λ file. OpenFaultOf standard file fault)
+Unopens s command NotMade = BothHeld s NoneMade × (command ≡ Some Replay)
+Unopens s command fault = BothHeld s (λ first second. OpenFaultOf standard first second fault)
 
 -- ---- a stream that is answered
 
@@ -104,14 +123,14 @@ abbrev pub session_in : {D : Type 0} → Scene D → Cache → OpenStore → Ses
 session_in s start final = session s.hour s.source s.sink (on_devices s (just_opened start) final)
 
 -- the texts of the replies from the opened store on were written. A crash at any moment of the call leaves the store after the
--- first items of the input; at return it leaves the store that the session left, which may lack the last change where the disks
--- failed
+-- first items of the input, which is sound where the opened one was. At return it leaves the store that the session left, and
+-- where the disks failed, the one before the last item or after it
 pub record Replays {D : Type 0} (s : Scene D) (start : Cache) (final : OpenStore) (end : SessionEnd) : Type 0 where
   pub opened : HeldStore s start
   pub serves : IsSession (session_in s start final) end
   pub counts : CountsAs (session_in s start final) end
   pub any_moment : OpensTo s start → EachSince (line_before s) (line_now s) (OpensWithin s.hour s.source.before (just_opened start) standard)
-  pub leaves : OpensTo s start → end ≢ DiskFailed → EachImage (line_now s) (λ im. OpensAs standard im final.cache)
+  pub leaves : OpensTo s start → end ≢ DiskFailed → EachImage (line_now s) (λ im. OpensAfter start im final.cache)
   pub stops : OpensTo s start → Stops (session_in s start final) (line_now s) standard end
 
 -- ---- a namespace that is made
@@ -119,11 +138,11 @@ pub record Replays {D : Type 0} (s : Scene D) (start : Cache) (final : OpenStore
 -- a crash at any moment of the call leaves the state before or after this entry, or no store where none was made
 abbrev pub LeavesBetween : {D : Type 0} → Scene D → Cache → Option Entry → Type 0
 LeavesBetween s start made =
-    StartsFrom s start → EachSince (line_before s) (line_now s) (λ im. OpensAs standard im start ⊎ OpensAs standard im (changed start [] made) ⊎ IsEmptyUnmade start im)
+    StartsFrom s start → EachSince (line_before s) (line_now s) (λ im. OpensWhole standard im start ⊎ OpensAfter start im (changed start [] made) ⊎ IsEmptyUnmade start im)
 
 -- at return a crash leaves the state after the entry
 abbrev pub LeavesAfter : {D : Type 0} → Scene D → Cache → Option Entry → Type 0
-LeavesAfter s start made = StartsFrom s start → EachImage (line_now s) (λ im. OpensAs standard im (changed start [] made))
+LeavesAfter s start made = StartsFrom s start → EachImage (line_now s) (λ im. OpensAfter start im (changed start [] made))
 
 -- a namespace was asked for, with this answer
 pub record AsksSpace {D : Type 0} (s : Scene D) (space : List ℕ) (ttl pin : ℕ) (start : Cache) (answer : Result (Unit {0}) StoreFault) (made : Option Entry) : Type 0 where
@@ -158,7 +177,7 @@ Ends s words Usage = (command_of words ≡ None) × IsQuiet s × (s.new ≡ s.ol
 Ends s words (Unopened fault) = (command_of words ≢ None) × IsQuiet s × AsBefore s.meaning s.old s.new × Unopens s (command_of words) fault
 Ends s words (Replayed end) = (command_of words ≡ Some Replay) × (start : Cache) × (final : OpenStore) × Replays s start final end
 Ends s words (Uncreated fault) =
-    AsInit words (λ space ttl pin. IsQuiet s × FirstHeld s (λ file. is_made file ≡ false) × Creates s.meaning s.old standard s.new
+    AsInit words (λ space ttl pin. IsQuiet s × BothHeld s NoneMade × Creates s.meaning s.old standard s.new
     × (((fault ≡ open_faults.DiskFailed) × DevicesRose s) ⊎ (fault ≡ open_faults.NoMemory)))
 Ends s words (Unmade fault) = AsInit words (λ space ttl pin. IsQuiet s × (start : Cache) × LacksSpace s space ttl pin start fault)
 Ends s words Made = AsInit words (λ space ttl pin. MakesSpace s space ttl pin × Appends s.sink.before s.sink.after (made_line space ttl pin) × MeetsNoFault s.sink)

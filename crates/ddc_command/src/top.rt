@@ -2,6 +2,7 @@
 ghost use Rattle.std.specs.Prelude.{◌≡◌, ◌≢◌, ◌⊎◌, ◌↔◌, None, IfOk, IfErr, string_bytes, true};
 ghost use Rattle.ddc_disk.specs.declared.devices.Devices.{Devices};
 ghost use Rattle.ddc_model.specs.Entries.{is_time};
+ghost use Rattle.ddc_model.specs.Laws.{SoundServes};
 ghost use Rattle.ddc_service.specs.Effects.{effect};
 ghost use Rattle.ddc_command.specs.declared.end.CommandEnd.{CommandEnd};
 ghost use Rattle.ddc_command.specs.declared.command.Command.TheVariants.{Replay};
@@ -15,10 +16,11 @@ use crate::command::Command;
 use crate::end::CommandEnd;
 use crate::notes::report;
 use crate::words::command_of;
-use ddc_book::{Book, OpenFault, StoreFault};
+use ddc_book::{Book, OpenFault, StoreFault, one_opening};
 use ddc_disk::{Devices, Disk};
+use ddc_journal::one_pair_reading;
 use ddc_link::{Clock, Sink, Source, put_all};
-use ddc_model::Limits;
+use ddc_model::{Limits, sound_caches_serve};
 use ddc_names::{Namespace, NoMemory};
 use ddc_service::replay_session;
 use std::alloc::Global;
@@ -35,6 +37,8 @@ fn replay<D: Disk, S: Source, W: Sink, C: Clock>(
     ensures untouched { status_of result.0 ≡ 2 → (source.new ≡ source.old) × (sink.new ≡ sink.old) }
     ensures not_usage { status_of result.0 ≢ 1 }
 {
+    one_opening();
+    one_pair_reading();
     match Book::load(alloc, devices, Limits::standard()) {
         Ok(book) => {
             let mut book = book;
@@ -63,6 +67,7 @@ fn found_store<D: Disk>(
     ensures found { IfOk result (λ book. OpensOrMakes D.tells D.meaning devices book) }
     ensures fails { IfErr result (λ r. FailsToOpen D.tells D.meaning devices r.0 r.1) }
 {
+    one_pair_reading();
     match Book::load(alloc, devices, Limits::standard()) {
         Ok(found) => Ok(found),
         Err((devices, fault)) => {
@@ -99,6 +104,8 @@ fn make_space<D: Disk, W: Sink>(
     ensures opened { status_of result.0 ≢ 2 }
     ensures not_usage { status_of result.0 ≢ 1 }
 {
+    one_opening();
+    one_pair_reading();
     let mut book = book;
     let Ok(line) = made_line(alloc, space.as_str(), ttl, pin) else {
         return (
@@ -209,7 +216,9 @@ pub fn run_local<D: Disk, S: Source, W: Sink, N: Sink, C: Clock>(
         × (result.0 ≡ status_of end) × Noted (effect N.written N.faults notes.old notes.new) (note_of end) }
     ensures usage { (result.0 ≡ 1) ↔ (command_of words.now ≡ None) }
     ensures untouched { (result.0 ≡ 1) ⊎ (result.0 ≡ 2) → (source.new ≡ source.old) × (sink.new ≡ sink.old) }
+    ensures sound_serves { SoundServes }
 {
+    sound_caches_serve();
     let (end, devices) = run_words(alloc, words, devices, source, sink, clock);
     (report(notes, end), devices)
 }

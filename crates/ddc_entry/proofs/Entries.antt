@@ -1,7 +1,8 @@
 -- The reader of entries undoes their spelling, and so there is one entry at a front.
-use Rattle.std.proofs.Common.{◌≡◌, ℕ, ◌+◌, ◌-◌, ◌<◌, ◌≤◌, Bool, List, [], ◌∷◌, ◌++◌, length, drop, Option, Some, None, refl, sym, ap, ◌∙◌, append_assoc, arith}
-use Rattle.std.specs.Prelude.{IfSome}
-use Rattle.std.proofs.lemmas.List.{append-nil, drop_at, length-append}
+use Rattle.std.proofs.Common.{◌≡◌, ℕ, Bool, true, false, List, [], ◌∷◌, ◌++◌, length, Option, Some, None, refl, sym, ap, ◌∙◌, append_assoc, arith}
+use Rattle.std.specs.Prelude.{◌==◌, IfSome}
+use Rattle.std.proofs.lemmas.Bool.Decides.{nat_tests}
+use Rattle.std.proofs.lemmas.List.{append-nil}
 use Rattle.std.proofs.lemmas.Option.{none-some, some_pair_parts}
 use Rattle.ddc_names.specs.declared.hash.IoHash.{IoHash}
 use Rattle.ddc_names.specs.declared.reference.RefName.{RefName}
@@ -10,7 +11,7 @@ use Rattle.ddc_model.specs.declared.entry.Entry.{Entry}
 use Rattle.ddc_model.specs.declared.entry.Entry.TheVariants.{Space, Upload, Repin, Put, Finalise, Delete, Touch}
 use Rattle.ddc_entry.specs.Spelling.{four_bytes, name, ref_name, flag, stored_bytes, optional, spelling, IsFour, IsName, IsHash, IsRefName, IsStored, IsEntry}
 use Rattle.ddc_entry.specs.inside.Reading.{Reader, both, tagged, none_at, four_at, name_at, hash_at, ref_name_at, flag_at, stored_at, fresh_at, space_at, upload_at, repin_at, put_at, finalise_at, delete_at, touch_at, entry_at}
-use Rattle.ddc_entry.specs.Laws.{OneEntry, OneFront}
+use Rattle.ddc_entry.specs.Laws.{OneEntry}
 use Rattle.ddc_entry.proofs.Readers.{IsBytes, Takes, TakesBehind, Again, Undoes, both_undo, nothing_takes, tagged_takes, made_takes, made_again}
 use Rattle.ddc_entry.proofs.Fields.{four_undo, name_undoes, hash_undoes, ref_name_undoes, flag_undoes, stored_undoes, fresh_undoes}
 
@@ -130,55 +131,37 @@ entry_again (Touch whole_name hour) rest fit = made_again (both ref_name_at four
 
 -- ---- the laws
 
-pub front_once : OneFront
-front_once e f xs ys p q same = some_pair_parts e f xs ys (sym (entry_again e xs p) ∙ ap entry_at same ∙ entry_again f ys q)
+-- an entry is read again from its spelling
+whole_again : (e : Entry) → IsEntry e → entry_at (spelling e) ≡ Some (e, [])
+whole_again e p = ap entry_at (sym (append-nil (spelling e))) ∙ entry_again e [] p
 
 pub entry_once : OneEntry
-entry_once e f p q same = (front_once e f [] [] p q (ap (λ (t : List ℕ). t ++ []) same)).0
+entry_once e f p q same = (some_pair_parts e f [] [] (sym (whole_again e p) ∙ ap entry_at same ∙ whole_again f q)).0
 
--- ---- what the calls answer
+-- ---- what is answered
 
-pub front_found : (bytes : List ℕ) (e : Entry) (rest : List ℕ) → IsEntry e → bytes ≡ spelling e ++ rest → entry_at bytes ≡ Some (e, rest)
-front_found bytes e rest p same = ap entry_at same ∙ entry_again e rest p
+-- an entry with nothing after it is what the bytes spell
+pub found_whole : (bytes : List ℕ) (e : Entry) → IsBytes bytes → entry_at bytes ≡ Some (e, []) → IsEntry e × (bytes ≡ spelling e)
+found_whole bytes e small h = let t = entry_takes bytes e [] small h in (t.1, t.0 ∙ append-nil (spelling e))
 
-lengths : (bytes front rest : List ℕ) → bytes ≡ front ++ rest → length bytes ≡ length front + length rest
-lengths bytes front rest same = ap length same ∙ length-append front rest
+-- where the bytes spell an entry, it is found, with nothing after it
+pub found_same : (bytes rest : List ℕ) (found e : Entry) → entry_at bytes ≡ Some (found, rest) → IsEntry e → bytes ≡ spelling e → (found ≡ e) × (rest ≡ [])
+found_same bytes rest found e h p same = some_pair_parts found e rest [] (sym h ∙ ap entry_at same ∙ whole_again e p)
 
-pub found_fits : (bytes : List ℕ) (e : Entry) (rest : List ℕ) → IsBytes bytes → entry_at bytes ≡ Some (e, rest) → length rest ≤ length bytes
-found_fits bytes e rest small h =
-    let t = entry_takes bytes e rest small h in
-    let n = lengths bytes (spelling e) rest t.0 in
-    omega (arith, n)
+pub not_refused : (bytes : List ℕ) (e : Entry) → entry_at bytes ≡ None → IsEntry e → bytes ≡ spelling e → ⊥
+not_refused bytes e h p same = none-some (e, []) (sym h ∙ ap entry_at same ∙ whole_again e p)
 
-pub found_spelled : (bytes : List ℕ) (e : Entry) (rest : List ℕ) → IsBytes bytes → entry_at bytes ≡ Some (e, rest)
-    → IsEntry e × (length bytes - length rest ≡ length (spelling e)) × (bytes ≡ spelling e ++ drop (length bytes - length rest) bytes)
-found_spelled bytes e rest small h =
-    let t = entry_takes bytes e rest small h in
-    let n = lengths bytes (spelling e) rest t.0 in
-    let count : length bytes - length rest ≡ length (spelling e) = omega (arith, n) in
-    let behind : drop (length bytes - length rest) bytes ≡ rest = ap (λ (k : ℕ). drop k bytes) count ∙ ap (λ (b : List ℕ). drop (length (spelling e)) b) t.0 ∙ drop_at (spelling e) rest (length (spelling e)) refl in
-    (t.1, count, t.0 ∙ ap (λ (r : List ℕ). spelling e ++ r) (sym behind))
+-- where nothing is left
+no_length : (n : ℕ) → true ≡ (n == 0) → n ≡ 0
+no_length n e = grind (arith, nat_tests)
 
-pub found_same : (bytes : List ℕ) (found e : Entry) (tail rest : List ℕ) → entry_at bytes ≡ Some (found, tail) → IsEntry e → bytes ≡ spelling e ++ rest
-    → ◌≡◌ {A = Option (Entry × ℕ)} (Some (found, length bytes - length tail)) (Some (e, length (spelling e)))
-found_same bytes found e tail rest h p same =
-    let parts = some_pair_parts found e tail rest (sym h ∙ front_found bytes e rest p same) in
-    let n = lengths bytes (spelling e) rest same in
-    let tails : length tail ≡ length rest = ap length parts.1 in
-    let count : length bytes - length tail ≡ length (spelling e) = omega (arith, n, tails) in
-    ap (λ (k : ℕ). Some (found, k)) count ∙ ap (λ (f : Entry). Some (f, length (spelling e))) parts.0
+nothing : (rest : List ℕ) → length rest ≡ 0 → rest ≡ []
+nothing [] e = refl
+nothing (b ∷ rest) e = absurd (omega (arith, e))
 
-pub refused_all : {A : Type 0} (bytes : List ℕ) (e : Entry) (rest : List ℕ) (other : A) → entry_at bytes ≡ None → IsEntry e → bytes ≡ spelling e ++ rest → ◌≡◌ {A = Option A} None (Some other)
-refused_all bytes e rest other h p same = let found = front_found bytes e rest p same in absurd (none-some (e, rest) (sym h ∙ found))
+pub none_left : (rest : List ℕ) → true ≡ (length rest == 0) → rest ≡ []
+none_left rest e = nothing rest (no_length (length rest) e)
 
-pub with_no_rest : (bytes spelled : List ℕ) → bytes ≡ spelled → bytes ≡ spelled ++ []
-with_no_rest bytes spelled same = same ∙ sym (append-nil spelled)
-
-pub too_short : (bytes : List ℕ) (found e : Entry) (len : ℕ) → ◌≡◌ {A = Option (Entry × ℕ)} (Some (found, len)) (Some (e, length (spelling e))) → len < length bytes → bytes ≡ spelling e → ◌≡◌ {A = Option Entry} None (Some e)
-too_short bytes found e len h lt same =
-    let count : len ≡ length (spelling e) = (some_pair_parts found e len (length (spelling e)) h).1 in
-    let whole : length bytes ≡ length (spelling e) = ap length same in
-    absurd (omega arith)
-
-pub not_there : (e : Entry) (len : ℕ) → ◌≡◌ {A = Option (Entry × ℕ)} None (Some (e, len)) → ◌≡◌ {A = Option Entry} None (Some e)
-not_there e len h = absurd (none-some (e, len) h)
+pub some_left : (rest : List ℕ) → false ≡ (length rest == 0) → rest ≡ [] → ⊥
+some_left [] e none = absurd (cc)
+some_left (b ∷ rest) e none = cc none

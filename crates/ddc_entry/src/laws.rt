@@ -2,7 +2,7 @@
 ghost use Rattle.std.specs.Prelude.{◌≡◌, ◌≤◌, Some, IfOk};
 ghost use Rattle.ddc_model.specs.Counts.{added_links, fresh_of};
 ghost use Rattle.ddc_model.specs.Limits.{most_links};
-ghost use Rattle.ddc_entry.specs.Laws.{OneEntry, OneFront};
+ghost use Rattle.ddc_entry.specs.Laws.{OneEntry};
 
 use crate::{read_entry, write_entry};
 use ddc_model::Entry;
@@ -12,11 +12,6 @@ use std::alloc::Global;
 /// Two entries with one spelling are the same.
 pub fn one_entry()
     ensures { OneEntry }
-{}
-
-/// No spelling is the front of another.
-pub fn one_front()
-    ensures { OneFront }
 {}
 
 /// What is written is read again.

@@ -1,7 +1,7 @@
 //! The entries of a store's history as bytes.
 //!
 //! An entry is a tag byte and its fields in order, and numbers are little-endian. Each entry has one
-//! spelling, and no spelling is the front of another, so entries can stand one after the other.
+//! spelling, and no two entries have the same.
 #![tactic(auto)]
 
 mod laws;
@@ -9,6 +9,6 @@ mod parts;
 mod reading;
 mod writing;
 
-pub use laws::{one_entry, one_front, written_then_read};
-pub use reading::{read_entry, read_front};
+pub use laws::{one_entry, written_then_read};
+pub use reading::read_entry;
 pub use writing::write_entry;

@@ -1,6 +1,6 @@
 //! Entries, read from bytes.
 
-ghost use Rattle.std.specs.Prelude.{◌≡◌, ◌++◌, List, ℕ, length, drop, Some, IfSome, IfOk};
+ghost use Rattle.std.specs.Prelude.{◌≡◌, Some, IfSome, IfOk};
 ghost use Rattle.ddc_model.specs.declared.entry.Entry.{Entry};
 ghost use Rattle.ddc_entry.specs.Spelling.{spelling, IsEntry};
 ghost use Rattle.ddc_entry.specs.inside.Reading.{ReadsAs, delete_at, entry_at, finalise_at, put_at, repin_at, space_at, touch_at, upload_at};
@@ -135,30 +135,13 @@ pub fn read_entry(alloc: Global, bytes: &[u8]) -> Result<Option<Entry>, NoMemory
     ensures found_is_spelled { IfOk result (λ found. IfSome found (λ e. IsEntry e × (bytes.now ≡ spelling e))) }
     ensures spelled_is_found { IfOk result (λ found. (e : Entry) → IsEntry e → bytes.now ≡ spelling e → found ≡ Some e) }
 {
-    match read_front(alloc, bytes) {
-        Ok(Some((entry, len))) => {
-            if len < bytes.len() {
+    match take_entry(alloc, bytes) {
+        Ok((entry, rest)) => {
+            if !rest.is_empty() {
                 return Ok(None);
             }
             Ok(Some(entry))
         }
-        Ok(None) => Ok(None),
-        Err(NoMemory) => Err(NoMemory),
-    }
-}
-
-/// The entry at the front of the bytes, and how many bytes spell it. `None` where no front of them
-/// spells one.
-///
-/// # Errors
-///
-/// `NoMemory` where there is none for the links of a blob or the name of a reference.
-pub fn read_front(alloc: Global, bytes: &[u8]) -> Result<Option<(Entry, usize)>, NoMemory>
-    ensures found_is_spelled { IfOk result (λ found. IfSome found (λ x. IsEntry x.0 × (x.1 ≡ length (spelling x.0)) × (bytes.now ≡ spelling x.0 ++ drop x.1 bytes.now))) }
-    ensures spelled_is_found { IfOk result (λ found. (e : Entry) (rest : List ℕ) → IsEntry e → bytes.now ≡ spelling e ++ rest → found ≡ Some (e, length (spelling e))) }
-{
-    match take_entry(alloc, bytes) {
-        Ok((entry, rest)) => Ok(Some((entry, bytes.len() - rest.len()))),
         Err(Unread::Refused) => Ok(None),
         Err(Unread::NoMemory) => Err(NoMemory),
     }

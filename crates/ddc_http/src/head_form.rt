@@ -8,13 +8,12 @@ ghost use Rattle.ddc_names.specs.Names.{name_of, key_of, hash_of};
 ghost use Rattle.ddc_protocol.specs.HeadForms.{is_slash, cut_text, space_and_hash, spot_of, spot_in, ref_named, finalize_hash, spot_and_hash_in, ref_and_hash, blob_form, ref_form, finalise_form, refs_form, target_form, request_form};
 
 use crate::fields::{is_absent, is_of_type, is_without_body, put_length};
+use ddc_model::MOST_BLOB_BYTES;
 use ddc_names::{Bucket, IoHash, Namespace, RefKey, RefName, RefSpot};
 use ddc_protocol::RequestForm;
 use httparse::spans::HeaderSpan;
 use std::str;
 
-/// The most bytes of a blob.
-const MOST_BLOB_BYTES: u64 = 67_108_864;
 /// The most bytes of an object that is put under a reference.
 const MOST_OBJECT_BYTES: u64 = 16_777_216;
 

@@ -1,5 +1,5 @@
 -- That each blob keeps its bytes, and what is known of them.
-use Rattle.std.specs.Prelude.{◌≡◌, ℕ, List, length, Option, None, Some, is_some, IsSome, IfSome, ◌⊎◌, max, refl, ⊤}
+use Rattle.std.specs.Prelude.{◌≡◌, ℕ, List, Option, None, Some, is_some, IsSome, ◌⊎◌, max, refl, ⊤}
 use Rattle.std.proofs.Common.{ap, sym, ◌∙◌, subst, inl, inr}
 use Rattle.std.specs.FinMap.{FinMap, get, insert}
 use Rattle.ddc_names.specs.declared.hash.IoHash.{IoHash}
@@ -13,9 +13,7 @@ use Rattle.ddc_model.specs.declared.entry.Entry.TheVariants.{Space, Upload, Repi
 use Rattle.ddc_model.specs.Keys.{blob_cmp, blob_exact, blob_total}
 use Rattle.ddc_model.specs.State.{State, blob_name}
 use Rattle.ddc_model.specs.Entries.{after, blob_of, pinned, with_put_root, with_touch}
-use Rattle.ddc_model.specs.Counts.{fresh_of}
 use Rattle.ddc_model.specs.Commands.{kept_where, kept}
-use Rattle.ddc_model.specs.Laws.{SoundHasBytes, EntryKeepsBytes}
 use Rattle.ddc_model.proofs.Maps.{get_here, get_away, same_or_not, same_some}
 
 -- the blob pinned from this hour on, where it is later
@@ -100,33 +98,3 @@ module _ (P : BlobName → Blob → List ℕ → Type 0) (lasts : (name : BlobNa
   stay s all (Finalise name hash hour) bytes have adds = have
   stay s all (Delete name hour) bytes have adds = have
   stay s all (Touch name hour) bytes have adds = touch_kept s all have name hour (get s.slots name)
-
--- ---- the lengths of blobs
-
-pub sound_has_bytes : SoundHasBytes
-sound_has_bytes cache sound = record {
-  each = λ name blob there. let has = sound.blobs name blob there in (has.0, has.1, has.2.length_is);
-  none_else = sound.none_else;
-}
-
-abbrev HasLength : BlobName → Blob → List ℕ → Type 0
-HasLength name blob bytes = blob.row.len ≡ length bytes
-
-length_lasts : (name : BlobName) (blob : Blob) (bytes : List ℕ) (hour : ℕ) → HasLength name blob bytes → HasLength name (later blob hour) bytes
-length_lasts name blob bytes hour is = is
-
-adds_length : (entry : Entry) (bytes : List ℕ) → IfSome (fresh_of entry) (λ blob. blob.len ≡ length bytes) → Adds HasLength length_lasts entry bytes
-adds_length (Space space ttl pin) bytes is = tt
-adds_length (Upload space blob hour) bytes is = is
-adds_length (Repin space hash hour) bytes is = tt
-adds_length (Put name root None whole hour) bytes is = tt
-adds_length (Put name root (Some blob) whole hour) bytes is = is
-adds_length (Finalise name hash hour) bytes is = tt
-adds_length (Delete name hour) bytes is = tt
-adds_length (Touch name hour) bytes is = tt
-
-pub bytes_kept : EntryKeepsBytes
-bytes_kept cache entry bytes has fits =
-    let before : Have HasLength cache.index.blobs cache.bytes = record { each = has.each; none_else = has.none_else } in
-    let now = stay HasLength length_lasts cache.index cache.bytes entry bytes before (adds_length entry bytes fits) in
-    record { each = now.each; none_else = now.none_else }

@@ -1,5 +1,5 @@
 -- What holds of no entry, and of the entry where a command makes one, is a fact of what it makes.
-use Rattle.std.specs.Prelude.{◌≡◌, ℕ, Bool, true, false, List, [], ◌∷◌, Option, None, Some, is_some, Result, Ok, Err, nat_lt, if◌then◌else◌, refl}
+use Rattle.std.specs.Prelude.{◌≡◌, ℕ, Bool, true, false, List, [], ◌∷◌, Option, None, Some, is_some, Result, Ok, Err, nat_lt, if◌then◌else◌, refl, ⊤}
 use Rattle.std.proofs.Common.{sym, subst}
 use Rattle.std.specs.FinMap.{get}
 use Rattle.ddc_names.specs.declared.hash.IoHash.{IoHash}
@@ -19,12 +19,21 @@ use Rattle.ddc_model.specs.Commands.{hour_of, stored_content, unless, with_room,
 use Rattle.ddc_model.specs.Reads.{DeleteAs}
 
 module _ (P : Option Entry → Type 0) (none : P None) (s : State) where
-  made_with_room : (entry : Option Entry) → P entry → (answer : Result (Unit {0}) StoreFault) (made : Option Entry) → EntryWhere (with_room s entry) answer made → P made
+  -- an entry is made only where the limits have room for it
+  abbrev WithRoom : Option Entry → Type 0
+  WithRoom (Some entry) = full s entry ≡ None → P (Some entry)
+  WithRoom None = ⊤
+
+  made_with_room : (entry : Option Entry) → WithRoom entry → (answer : Result (Unit {0}) StoreFault) (made : Option Entry) → EntryWhere (with_room s entry) answer made → P made
   made_with_room None some answer made (_, is) = subst P (sym is) none
-  made_with_room (Some entry) some answer made gives = by_cases (full s entry) gives where
-    by_cases : (fault : Option StoreFault) → EntryWhere (unless fault (Some entry)) answer made → P made
-    by_cases None (_, is) = subst P (sym is) some
-    by_cases (Some fault) (_, is) = subst P (sym is) none
+  made_with_room (Some entry) some answer made gives = by_cases (full s entry) refl gives where
+    by_cases : (fault : Option StoreFault) → full s entry ≡ fault → EntryWhere (unless fault (Some entry)) answer made → P made
+    by_cases None room (_, is) = subst P (sym is) (some room)
+    by_cases (Some fault) room (_, is) = subst P (sym is) none
+
+  room_if : (b : Bool) (entry : Entry) → P (Some entry) → WithRoom (if b then Some entry else None)
+  room_if true entry some = λ room. some
+  room_if false entry some = tt
 
   if_made : (b : Bool) (entry : Entry) → P (Some entry) → P (if b then Some entry else None)
   if_made true entry some = some
@@ -32,31 +41,31 @@ module _ (P : Option Entry → Type 0) (none : P None) (s : State) where
 
   pub made_by_space : (space : List ℕ) (ttl pin : ℕ) → P (Some (Space space ttl pin))
       → (answer : Result (Unit {0}) StoreFault) (made : Option Entry) → SpaceAs s space ttl pin answer made → P made
-  made_by_space space ttl pin some = made_with_room (Some (Space space ttl pin)) some
+  made_by_space space ttl pin some = made_with_room (Some (Space space ttl pin)) (λ room. some)
 
   pub made_by_upload : (space : List ℕ) (content : Content) (hour : ℕ)
-      → (has_space s space ≡ true → blob_at s space (content_hash content.bytes) ≡ None → P (Some (Upload space (stored_content content) (hour_of s hour))))
+      → (has_space s space ≡ true → full s (Upload space (stored_content s content) (hour_of s hour)) ≡ None → blob_at s space (content_hash content.bytes) ≡ None → P (Some (Upload space (stored_content s content) (hour_of s hour))))
       → (has_space s space ≡ true → (blob : Blob) → blob_at s space (content_hash content.bytes) ≡ Some blob → P (Some (Repin space (content_hash content.bytes) (hour_of s hour))))
       → (answer : Result (Unit {0}) StoreFault) (made : Option Entry) → UploadAs s space content hour answer made → P made
   made_by_upload space content hour new old answer made gives = by_cases (has_space s space) refl gives where
-    entry : has_space s space ≡ true → (found : Option Blob) → blob_at s space (content_hash content.bytes) ≡ found → P (upload_where found space content (hour_of s hour))
-    entry known None is = new known is
-    entry known (Some blob) is = if_made (nat_lt blob.row.at (hour_of s hour)) (Repin space (content_hash content.bytes) (hour_of s hour)) (old known blob is)
+    entry : has_space s space ≡ true → (found : Option Blob) → blob_at s space (content_hash content.bytes) ≡ found → WithRoom (upload_where s found space content (hour_of s hour))
+    entry known None is = λ room. new known room is
+    entry known (Some blob) is = room_if (nat_lt blob.row.at (hour_of s hour)) (Repin space (content_hash content.bytes) (hour_of s hour)) (old known blob is)
 
-    by_cases : (there : Bool) → has_space s space ≡ there → EntryWhere (if there then with_room s (upload_where (blob_at s space (content_hash content.bytes)) space content (hour_of s hour)) else Err UnknownSpace) answer made → P made
-    by_cases true known given = made_with_room (upload_where (blob_at s space (content_hash content.bytes)) space content (hour_of s hour)) (entry known (blob_at s space (content_hash content.bytes)) refl) answer made given
+    by_cases : (there : Bool) → has_space s space ≡ there → EntryWhere (if there then with_room s (upload_where s (blob_at s space (content_hash content.bytes)) space content (hour_of s hour)) else Err UnknownSpace) answer made → P made
+    by_cases true known given = made_with_room (upload_where s (blob_at s space (content_hash content.bytes)) space content (hour_of s hour)) (entry known (blob_at s space (content_hash content.bytes)) refl) answer made given
     by_cases false known (_, is) = subst P (sym is) none
 
   pub made_by_put : (name : RefName) (content : Content) (hour : ℕ)
-      → (has_space s name.space ≡ true → (needs : List IoHash) → AreNeeds (links_in (with_object s name content hour) name.space) (content_hash content.bytes) needs → P (Some (put_entry s name content needs hour)))
+      → (has_space s name.space ≡ true → full s (put_entry s name content [] hour) ≡ None → (needs : List IoHash) → AreNeeds (links_in (with_object s name content hour) name.space) (content_hash content.bytes) needs → P (Some (put_entry s name content needs hour)))
       → (answer : Result (List IoHash) StoreFault) (made : Option Entry) → PutAs s name content hour answer made → P made
   made_by_put name content hour some answer made gives = by_cases (has_space s name.space) refl gives where
-    by_fault : has_space s name.space ≡ true → (fault : Option StoreFault) → PutWhere fault s name content hour answer made → P made
-    by_fault known (Some fault) (_, is) = subst P (sym is) none
-    by_fault known None (needs, are, _, is) = subst P (sym is) (some known needs are)
+    by_fault : has_space s name.space ≡ true → (fault : Option StoreFault) → full s (put_entry s name content [] hour) ≡ fault → PutWhere fault s name content hour answer made → P made
+    by_fault known (Some fault) room (_, is) = subst P (sym is) none
+    by_fault known None room (needs, are, _, is) = subst P (sym is) (some known room needs are)
 
     by_cases : (there : Bool) → has_space s name.space ≡ there → PutWhere (if there then full s (put_entry s name content [] hour) else Some UnknownSpace) s name content hour answer made → P made
-    by_cases true known given = by_fault known (full s (put_entry s name content [] hour)) given
+    by_cases true known given = by_fault known (full s (put_entry s name content [] hour)) refl given
     by_cases false known (_, is) = subst P (sym is) none
 
   pub made_by_finalise : (name : RefName) (hash : IoHash) (hour : ℕ)

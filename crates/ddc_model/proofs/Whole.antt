@@ -173,15 +173,15 @@ space_whole s space ttl pin answer made whole gives = made_by_space (KeepsWhole 
 pub upload_whole : UploadKeepsWhole
 upload_whole s space content hour answer made whole gives =
     made_by_upload (KeepsWhole s) tt s space content hour
-    (λ known none. keeps s (Upload space (stored_content content) (hour_of s hour)) whole tt none)
+    (λ known room none. keeps s (Upload space (stored_content s content) (hour_of s hour)) whole tt none)
     (λ known blob is. keeps s (Repin space (content_hash content.bytes) (hour_of s hour)) whole tt tt) answer made gives
 
 pub put_whole : PutKeepsWhole
 put_whole s name content hour answer made whole gives =
     made_by_put (KeepsWhole s) tt s name content hour
-    (λ known needs are. keeps s (put_entry s name content needs hour) whole (whole_or_needs (links_in (with_object s name content hour) name.space) (content_hash content.bytes) needs are)
+    (λ known room needs are. keeps s (put_entry s name content needs hour) whole (whole_or_needs (links_in (with_object s name content hour) name.space) (content_hash content.bytes) needs are)
     (is_new (blob_at s name.space (content_hash content.bytes)) refl)) answer made gives where
-      is_new : (found : Option Blob) → blob_at s name.space (content_hash content.bytes) ≡ found → IsNewIn s name.space (fresh_where found content)
+      is_new : (found : Option Blob) → blob_at s name.space (content_hash content.bytes) ≡ found → IsNewIn s name.space (fresh_where s found content)
       is_new None is = is
       is_new (Some blob) is = tt
 

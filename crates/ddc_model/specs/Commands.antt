@@ -1,6 +1,7 @@
 -- What each command answers in a state, and the entry that it makes.
-use Rattle.std.specs.Prelude.{◌≡◌, ℕ, Bool, true, false, List, [], ◌∷◌, length, Option, None, Some, Result, Ok, Err, max, nat_lt, if◌then◌else◌}
+use Rattle.std.specs.Prelude.{◌≡◌, ℕ, Bool, true, false, List, [], ◌∷◌, length, Option, None, Some, option_map, Result, Ok, Err, max, nat_lt, if◌then◌else◌}
 use Rattle.std.specs.FinMap.{FinMap, get, insert}
+use Rattle.std.specs.Option.{unwrap_or}
 use Rattle.ddc_names.specs.declared.hash.IoHash.{IoHash}
 use Rattle.ddc_names.specs.declared.reference.RefName.{RefName}
 use Rattle.ref_store.specs.declared.slot.Slot.{Slot}
@@ -12,19 +13,24 @@ use Rattle.ddc_model.specs.declared.fault.StoreFault.{StoreFault}
 use Rattle.ddc_model.specs.declared.fault.StoreFault.TheVariants.{UnknownSpace, NotFound, NotFinalised, NotPending}
 use Rattle.ddc_model.specs.Keys.{blob_cmp}
 use Rattle.ddc_model.specs.State.{State, blob_name, blob_at, has_space}
+use Rattle.ddc_model.specs.Extents.{units_of, free_run}
 use Rattle.ddc_model.specs.Entries.{after, is_hash, with_put_root}
 use Rattle.ddc_model.specs.Content.{Content, content_hash}
 use Rattle.ddc_model.specs.Closure.{links_in, AreNeeds}
 use Rattle.ddc_model.specs.Counts.{full}
-use Rattle.ddc_model.specs.Sound.{Cache}
+use Rattle.ddc_model.specs.Sound.{Cache, Tells}
 
 -- the hour of an entry: the command's, or the state's where that is later
 abbrev pub hour_of : State → ℕ → ℕ
 hour_of s hour = max s.hour hour
 
--- a blob of these contents
-abbrev pub stored_content : Content → Stored
-stored_content content = record { hash = content_hash content.bytes; len = length content.bytes; start = 0; links = content.links }
+-- where the bytes of a blob that is added stand: in the first run of free units that holds them
+abbrev pub first_unit : State → List ℕ → ℕ
+first_unit s bytes = unwrap_or (free_run s (units_of (length bytes))) 0
+
+-- a blob of these contents, as it is added to a state
+abbrev pub stored_content : State → Content → Stored
+stored_content s content = record { hash = content_hash content.bytes; len = length content.bytes; start = first_unit s content.bytes; links = content.links }
 
 -- an entry, where the limits have room for it
 abbrev pub unless : {A : Type 0} → Option StoreFault → A → Result A StoreFault
@@ -49,13 +55,13 @@ SpaceAs s space ttl pin answer made = EntryWhere (with_room s (Some (Space space
 -- ---- storing a blob
 
 -- a blob that isn't there is added, and one that was stored or named at an earlier hour is pinned
-abbrev pub upload_where : Option Blob → List ℕ → Content → ℕ → Option Entry
-upload_where None space content hour = Some (Upload space (stored_content content) hour)
-upload_where (Some blob) space content hour = if nat_lt blob.row.at hour then Some (Repin space (content_hash content.bytes) hour) else None
+abbrev pub upload_where : State → Option Blob → List ℕ → Content → ℕ → Option Entry
+upload_where s None space content hour = Some (Upload space (stored_content s content) hour)
+upload_where s (Some blob) space content hour = if nat_lt blob.row.at hour then Some (Repin space (content_hash content.bytes) hour) else None
 
 abbrev pub upload_entry : State → List ℕ → Content → ℕ → Result (Option Entry) StoreFault
 upload_entry s space content hour =
-    if has_space s space then with_room s (upload_where (blob_at s space (content_hash content.bytes)) space content (hour_of s hour)) else Err UnknownSpace
+    if has_space s space then with_room s (upload_where s (blob_at s space (content_hash content.bytes)) space content (hour_of s hour)) else Err UnknownSpace
 
 abbrev pub UploadAs : State → List ℕ → Content → ℕ → Result (Unit {0}) StoreFault → Option Entry → Type 0
 UploadAs s space content hour answer made = EntryWhere (upload_entry s space content hour) answer made
@@ -63,12 +69,12 @@ UploadAs s space content hour answer made = EntryWhere (upload_entry s space con
 -- ---- putting an object under a reference
 
 -- the blob of the object, where it isn't there
-abbrev pub fresh_where : Option Blob → Content → Option Stored
-fresh_where None content = Some (stored_content content)
-fresh_where (Some blob) content = None
+abbrev pub fresh_where : State → Option Blob → Content → Option Stored
+fresh_where s None content = Some (stored_content s content)
+fresh_where s (Some blob) content = None
 
 abbrev pub fresh_root : State → RefName → Content → Option Stored
-fresh_root s name content = fresh_where (blob_at s name.space (content_hash content.bytes)) content
+fresh_root s name content = fresh_where s (blob_at s name.space (content_hash content.bytes)) content
 
 -- the state in which the object is stored
 abbrev pub with_object : State → RefName → Content → ℕ → State
@@ -140,22 +146,20 @@ touch_where None name hour = None
 abbrev pub touch_entry : State → RefName → ℕ → Option Entry
 touch_entry s name hour = touch_where (get s.slots name) name (hour_of s hour)
 
+-- these may be read of a blob that is there: as many bytes as it has, and those that the devices tell
+pub record MayRead (cache : Cache) (space : List ℕ) (hash : IoHash) (bytes : List ℕ) : Type 0 where
+  pub blob : Blob
+  pub there : blob_at cache.index space hash ≡ Some blob
+  pub length_is : length bytes ≡ blob.row.len
+  pub told : Tells cache (blob_name space hash) bytes
+
 -- the answer is the hash and the bytes of the finalised object
 abbrev pub GetWhere : Result IoHash StoreFault → Cache → RefName → ℕ → Result (IoHash × List ℕ) StoreFault → Option Entry → Type 0
 GetWhere (Err fault) cache name hour answer made = (answer ≡ Err fault) × (made ≡ None)
-GetWhere (Ok hash) cache name hour answer made =
-    (bytes : List ℕ) × (get cache.bytes (blob_name name.space hash) ≡ Some bytes) × (answer ≡ Ok (hash, bytes)) × (made ≡ touch_entry cache.index name hour)
+GetWhere (Ok hash) cache name hour answer made = (bytes : List ℕ) × MayRead cache name.space hash bytes × (answer ≡ Ok (hash, bytes)) × (made ≡ touch_entry cache.index name hour)
 
 abbrev pub GetAs : Cache → RefName → ℕ → Result (IoHash × List ℕ) StoreFault → Option Entry → Type 0
 GetAs cache name hour answer made = GetWhere (object_of cache.index name) cache name hour answer made
-
--- the bytes of a blob
-abbrev pub found : {A : Type 0} → Option A → Result A StoreFault
-found (Some x) = Ok x
-found None = Err NotFound
-
-abbrev pub fetch : Cache → List ℕ → IoHash → Result (List ℕ) StoreFault
-fetch cache space hash = if has_space cache.index space then found (get cache.bytes (blob_name space hash)) else Err UnknownSpace
 
 -- ---- what a command leaves
 
@@ -171,5 +175,5 @@ kept all entry bytes = all
 
 -- the state and the bytes after the entry of a command with these bytes, where it makes one
 abbrev pub changed : Cache → List ℕ → Option Entry → Cache
-changed cache bytes (Some entry) = record { index = after cache.index entry; bytes = kept cache.bytes entry bytes }
+changed cache bytes (Some entry) = record { index = after cache.index entry; bytes = option_map (λ all. kept all entry bytes) cache.bytes }
 changed cache bytes None = cache

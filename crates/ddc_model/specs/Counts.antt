@@ -1,5 +1,5 @@
 -- What the limits of a store count, and which entries would pass one.
-use Rattle.std.specs.Prelude.{ℕ, ◌+◌, Bool, ◌&&◌, List, [], ◌∷◌, length, Option, None, Some, is_some, nat_lt, if◌then◌else◌}
+use Rattle.std.specs.Prelude.{ℕ, ◌+◌, Bool, false, not, ◌&&◌, List, [], ◌∷◌, length, Option, None, Some, is_some, nat_lt, if◌then◌else◌}
 use Rattle.std.specs.FinMap.{get, len, entries}
 use Rattle.ddc_model.specs.declared.rows.Blob.{Blob}
 use Rattle.ddc_model.specs.declared.rows.BlobName.{BlobName}
@@ -8,8 +8,9 @@ use Rattle.ddc_model.specs.declared.entry.Entry.{Entry}
 use Rattle.ddc_model.specs.declared.entry.Entry.TheVariants.{Space, Upload, Put}
 use Rattle.ddc_model.specs.declared.fault.StoreFault.{StoreFault}
 use Rattle.ddc_model.specs.declared.fault.StoreFault.TheVariants.{Full}
-use Rattle.ddc_model.specs.declared.fault.What.TheVariants.{Spaces, Blobs, Refs, Links}
+use Rattle.ddc_model.specs.declared.fault.What.TheVariants.{Spaces, Blobs, Refs, Links, Units}
 use Rattle.ddc_model.specs.State.{State, has_space}
+use Rattle.ddc_model.specs.Extents.{units_of, free_run}
 
 -- how many links these blobs have in all
 abbrev pub links_of_all : List (BlobName × Blob) → ℕ
@@ -50,6 +51,11 @@ added_refs s entry = 0
 abbrev pub passes : ℕ → ℕ → ℕ → Bool
 passes count more limit = nat_lt 0 more && nat_lt limit (count + more)
 
+-- no run of free units holds the blob that is added
+abbrev pub lacks_run : State → Option Stored → Bool
+lacks_run s (Some blob) = not (is_some (free_run s (units_of blob.len)))
+lacks_run s None = false
+
 -- the first limit that an entry would pass
 abbrev pub full : State → Entry → Option StoreFault
 full s entry =
@@ -57,4 +63,5 @@ full s entry =
     if passes (len s.blobs) (added_blobs (fresh_of entry)) s.limits.blobs then Some (Full Blobs s.limits.blobs) else
     if passes (len s.slots) (added_refs s entry) s.limits.refs then Some (Full Refs s.limits.refs) else
     if passes (link_count s) (added_links (fresh_of entry)) s.limits.links then Some (Full Links s.limits.links) else
+    if lacks_run s (fresh_of entry) then Some (Full Units s.limits.units) else
     None

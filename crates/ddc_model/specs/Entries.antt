@@ -1,5 +1,5 @@
 -- Which entries are legal in a state, and what each leaves.
-use Rattle.std.specs.Prelude.{ℕ, ◌+◌, ◌/◌, Bool, true, false, not, ◌&&◌, List, length, Option, None, Some, is_some, max, nat_le, nat_eq}
+use Rattle.std.specs.Prelude.{ℕ, Bool, true, false, not, ◌&&◌, List, length, Option, None, Some, is_some, max, nat_le, nat_eq}
 use Rattle.std.specs.FinMap.{FinMap, get, insert, remove}
 use lib.Pointwise.{pointwise}
 use Rattle.ddc_names.specs.declared.hash.IoHash.{IoHash}
@@ -7,12 +7,14 @@ use Rattle.ddc_names.specs.declared.reference.RefName.{RefName}
 use Rattle.ref_store.specs.declared.slot.Slot.{Slot}
 use Rattle.ddc_model.specs.declared.rows.Blob.{Blob}
 use Rattle.ddc_model.specs.declared.rows.BlobName.{BlobName}
+use Rattle.ddc_model.specs.declared.rows.Extent.{Extent}
 use Rattle.ddc_model.specs.declared.entry.Stored.{Stored}
 use Rattle.ddc_model.specs.declared.entry.Entry.{Entry}
 use Rattle.ddc_model.specs.declared.entry.Entry.TheVariants.{Space, Upload, Repin, Put, Finalise, Delete, Touch}
 use Rattle.ddc_model.specs.Keys.{blob_cmp}
 use Rattle.ddc_model.specs.Limits.{most_bytes, most_links}
 use Rattle.ddc_model.specs.State.{State, blob_name, has_blob, has_space, done_of, pending_of}
+use Rattle.ddc_model.specs.Extents.{extent, is_free, units_of}
 
 abbrev pub same_hash : IoHash → IoHash → Bool
 same_hash a b = pointwise nat_eq a.0 b.0
@@ -28,9 +30,13 @@ is_hash None hash = false
 abbrev pub is_time : ℕ → Bool
 is_time hours = nat_le 1 hours && nat_le hours 1000000
 
--- a blob that isn't there, of a length and with links within the limits
+-- where the bytes of a blob that an entry adds stand
+abbrev pub extent_of : Stored → Extent
+extent_of blob = extent blob.start (units_of blob.len)
+
+-- a blob that isn't there, of a length and with links within the limits, whose units are free
 abbrev pub is_fresh : State → List ℕ → Stored → Bool
-is_fresh s space blob = not (has_blob s space blob.hash) && nat_le blob.len most_bytes && nat_le (length blob.links) most_links
+is_fresh s space blob = not (has_blob s space blob.hash) && nat_le blob.len most_bytes && nat_le (length blob.links) most_links && is_free s (extent_of blob)
 
 -- the root is there, or is the fresh blob
 abbrev pub is_root : State → List ℕ → IoHash → Option Stored → Bool
@@ -53,12 +59,8 @@ legal s (Touch name hour) = has_space s name.space && is_some (done_of (get s.sl
 abbrev pub at_hour : State → ℕ → State
 at_hour s hour = record s { hour = max s.hour hour }
 
--- the smallest number of units of 4,096 bytes that holds so many bytes
-abbrev pub units_of : ℕ → ℕ
-units_of len = (len + 4095) / 4096
-
 abbrev pub blob_of : Stored → ℕ → Blob
-blob_of blob hour = record { row = record { len = blob.len; at = hour; extent = record { start = blob.start; units = units_of blob.len } }; links = blob.links }
+blob_of blob hour = record { row = record { len = blob.len; at = hour; extent = extent_of blob }; links = blob.links }
 
 abbrev pub with_blob : State → List ℕ → Stored → ℕ → State
 with_blob s space blob hour = record s { blobs = insert s.blobs (blob_name space blob.hash) (blob_of blob hour) }

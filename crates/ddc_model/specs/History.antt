@@ -1,13 +1,12 @@
 -- The steps of a store that was opened, and what they leave.
-use Rattle.std.specs.Prelude.{◌≡◌, ℕ, ◌+◌, ◌-◌, ◌^◌, ◌≤◌, ◌||◌, true, min, List, [], ◌∷◌, ◌++◌, Option, None, Some, Result, Err, nat_lt, if◌then◌else◌, ⊤, ◌↔◌}
-use Rattle.ddc_model.specs.declared.rows.Limits.{Limits}
+use Rattle.std.specs.Prelude.{◌≡◌, ℕ, ◌+◌, ◌-◌, ◌^◌, ◌≤◌, ◌||◌, true, min, List, [], ◌∷◌, Option, None, Some, Result, Err, nat_lt, if◌then◌else◌, ⊤, ◌↔◌}
 use Rattle.ddc_model.specs.declared.entry.Entry.{Entry}
 use Rattle.ddc_model.specs.declared.entry.Entry.TheVariants.{Put, Finalise}
 use Rattle.ddc_model.specs.declared.entry.Step.{Step}
 use Rattle.ddc_model.specs.declared.entry.Step.TheVariants.{Loaded, Change, Broke}
 use Rattle.ddc_model.specs.declared.fault.StoreFault.{StoreFault}
 use Rattle.ddc_model.specs.declared.fault.StoreFault.TheVariants.{Broken, HistoryFull}
-use Rattle.ddc_model.specs.State.{State, empty_state}
+use Rattle.ddc_model.specs.State.{State}
 use Rattle.ddc_model.specs.Entries.{after, with_put_root}
 use Rattle.ddc_model.specs.Closure.{links_in, IsWhole}
 use Rattle.ddc_model.specs.Counts.{added_links, fresh_of}

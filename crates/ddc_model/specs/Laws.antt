@@ -1,19 +1,21 @@
 -- What holds of the definitions.
-use Rattle.std.specs.Prelude.{◌≡◌, ℕ, ◌*◌, ◌≤◌, true, List, [], length, Option, None, Some, Result, IfSome, ⊤}
+use Rattle.std.specs.Prelude.{◌≡◌, ℕ, ◌*◌, ◌≤◌, true, List, [], length, Option, None, Some, IsSome, Result, Ok, ⊤}
+use Rattle.std.specs.FinMap.{get}
 use Rattle.ddc_names.specs.declared.hash.IoHash.{IoHash}
 use Rattle.ddc_names.specs.declared.reference.RefName.{RefName}
+use Rattle.cb_fields.specs.declared.links.LinkKind.{LinkKind}
 use Rattle.ddc_model.specs.declared.rows.Limits.{Limits}
 use Rattle.ddc_model.specs.declared.entry.Entry.{Entry}
 use Rattle.ddc_model.specs.declared.fault.StoreFault.{StoreFault}
 use Rattle.ddc_model.specs.Limits.{most_bytes}
-use Rattle.ddc_model.specs.State.{State}
+use Rattle.ddc_model.specs.State.{State, done_of, empty_state}
+use Rattle.ddc_model.specs.Extents.{IsPlaced}
 use Rattle.ddc_model.specs.Entries.{after, legal, is_time}
-use Rattle.ddc_model.specs.Content.{Content, IsContent}
-use Rattle.ddc_model.specs.Closure.{Links, AreNeeds, IsWhole}
-use Rattle.ddc_model.specs.Sound.{Cache, empty_cache, HasBytes, AreWhole, IsSound}
-use Rattle.ddc_model.specs.Counts.{fresh_of}
+use Rattle.ddc_model.specs.Content.{Content, IsContent, content_hash}
+use Rattle.ddc_model.specs.Closure.{Links, links_in, AreNeeds, IsReached, IsWhole}
+use Rattle.ddc_model.specs.Sound.{Cache, empty_cache, AreWhole, IsSound}
 use Rattle.ddc_model.specs.Commands.{SpaceAs, UploadAs, PutAs, FinaliseAs, GetAs, changed}
-use Rattle.ddc_model.specs.Reads.{DeleteAs}
+use Rattle.ddc_model.specs.Reads.{DeleteAs, ServesAs}
 use Rattle.ddc_model.specs.History.{IsLawful}
 
 -- bytes have one list of links, and are an object or none
@@ -68,15 +70,23 @@ abbrev pub DeleteStaysSound : Type 0
 DeleteStaysSound = (cache : Cache) (name : RefName) (hour : ℕ) (answer : Result (Unit {0}) StoreFault) (made : Option Entry)
     → IsSound cache → DeleteAs cache.index name hour answer made → IsSound (changed cache [] made)
 
+-- a sound cache serves each hash of a finalised reference's closure, with bytes of that hash
+abbrev pub SoundServes : Type 0
+SoundServes = (cache : Cache) (name : RefName) (root hash : IoHash) (kind : LinkKind) (answer : Result (List ℕ) StoreFault)
+    → IsSound cache → IsSome (get cache.index.spaces name.space) → done_of (get cache.index.slots name) ≡ Some root → IsReached (links_in cache.index name.space) root (record { kind = kind; hash = hash })
+    → ServesAs cache name.space hash answer → (bytes : List ℕ) × (answer ≡ Ok bytes) × (content_hash bytes ≡ hash)
+
+-- ---- where the blobs stand
+
+-- those of an empty state stand nowhere
+abbrev pub EmptyIsPlaced : Type 0
+EmptyIsPlaced = (limits : Limits) → IsPlaced (empty_state limits)
+
+-- a legal entry keeps the blobs apart
+abbrev pub LegalStaysPlaced : Type 0
+LegalStaysPlaced = (s : State) (entry : Entry) → IsPlaced s → legal s entry ≡ true → IsPlaced (after s entry)
+
 -- ---- what stays whole and lawful, whatever the bytes are
-
--- a sound cache has its bytes, and its references are whole
-abbrev pub SoundHasBytes : Type 0
-SoundHasBytes = (cache : Cache) → IsSound cache → HasBytes cache
-
--- an entry keeps that each blob has bytes, where those of a blob that it adds have its length
-abbrev pub EntryKeepsBytes : Type 0
-EntryKeepsBytes = (cache : Cache) (entry : Entry) (bytes : List ℕ) → HasBytes cache → IfSome (fresh_of entry) (λ blob. blob.len ≡ length bytes) → HasBytes (changed cache bytes (Some entry))
 
 -- the entry that is made, where there is one, is lawful, and leaves the finalised references whole
 abbrev pub KeepsWhole : State → Option Entry → Type 0

@@ -1,6 +1,8 @@
 pub mod Keys
 pub mod Limits
 pub mod State
+pub mod Extents
+pub mod ExtentLaws
 pub mod Entries
 pub mod Content
 pub mod Closure

@@ -15,7 +15,7 @@ use Rattle.ddc_model.specs.Entries.{same_hash}
 use Rattle.ddc_model.specs.Content.{content_hash}
 use Rattle.ddc_model.specs.Closure.{has_hash}
 use Rattle.ddc_model.specs.Sound.{Cache}
-use Rattle.ddc_model.specs.Commands.{EntryWhere, GetAs, fetch, hour_of, object_of}
+use Rattle.ddc_model.specs.Commands.{EntryWhere, GetAs, MayRead, hour_of, object_of}
 use Rattle.ddc_model.specs.History.{Past, no_room_for}
 
 -- ---- blobs
@@ -24,21 +24,25 @@ use Rattle.ddc_model.specs.History.{Past, no_room_for}
 abbrev pub undamaged : IoHash → List ℕ → Result (List ℕ) StoreFault
 undamaged hash bytes = if same_hash (content_hash bytes) hash then Ok bytes else Err (Damaged hash (content_hash bytes))
 
-abbrev pub served : IoHash → Result (List ℕ) StoreFault → Result (List ℕ) StoreFault
-served hash (Ok bytes) = undamaged hash bytes
-served hash (Err fault) = Err fault
-
 -- the bytes of a blob, where they have its hash
-abbrev pub serve : Cache → List ℕ → IoHash → Result (List ℕ) StoreFault
-serve cache space hash = served hash (fetch cache space hash)
+abbrev pub ServesFound : Option Blob → Cache → List ℕ → IoHash → Result (List ℕ) StoreFault → Type 0
+ServesFound None cache space hash answer = answer ≡ Err NotFound
+ServesFound (Some blob) cache space hash answer = (bytes : List ℕ) × MayRead cache space hash bytes × (answer ≡ undamaged hash bytes)
+
+abbrev pub ServesWhere : Bool → Cache → List ℕ → IoHash → Result (List ℕ) StoreFault → Type 0
+ServesWhere true cache space hash answer = ServesFound (blob_at cache.index space hash) cache space hash answer
+ServesWhere false cache space hash answer = answer ≡ Err UnknownSpace
+
+abbrev pub ServesAs : Cache → List ℕ → IoHash → Result (List ℕ) StoreFault → Type 0
+ServesAs cache space hash answer = ServesWhere (has_space cache.index space) cache space hash answer
 
 -- whether they have
 abbrev pub sound_or : {A : Type 0} → Result A StoreFault → Result (Unit {0}) StoreFault
 sound_or (Ok bytes) = Ok tt
 sound_or (Err fault) = Err fault
 
-abbrev pub verify : Cache → List ℕ → IoHash → Result (Unit {0}) StoreFault
-verify cache space hash = sound_or (serve cache space hash)
+abbrev pub VerifiesAs : Cache → List ℕ → IoHash → Result (Unit {0}) StoreFault → Type 0
+VerifiesAs cache space hash answer = (served : Result (List ℕ) StoreFault) × ServesAs cache space hash served × (answer ≡ sound_or served)
 
 abbrev pub len_found : Option Blob → Result ℕ StoreFault
 len_found (Some blob) = Ok blob.row.len

@@ -1,5 +1,5 @@
 -- When a state and the bytes of its blobs are sound.
-use Rattle.std.specs.Prelude.{◌≡◌, ℕ, Bool, List, length, Option, None, Some, IsSome}
+use Rattle.std.specs.Prelude.{◌≡◌, ℕ, Bool, List, length, Option, None, Some, IfSome, IsSome}
 use Rattle.std.specs.FinMap.{FinMap, get, empty}
 use Rattle.std.specs.declared.cmp.Ordering.TheVariants.{Less}
 use Rattle.ddc_names.specs.declared.hash.IoHash.{IoHash}
@@ -14,13 +14,18 @@ use Rattle.ddc_model.specs.State.{State, empty_state}
 use Rattle.ddc_model.specs.Content.{AreLinksOf, content_hash}
 use Rattle.ddc_model.specs.Closure.{links_in, IsWhole}
 
--- a state, and the bytes of each blob
+-- a state, and the bytes of each blob, where the devices tell what they hold
 pub record Cache : Type 0 where
   pub index : State
-  pub bytes : FinMap blob_cmp (List ℕ)
+  pub bytes : Option (FinMap blob_cmp (List ℕ))
 
+-- of nothing
 abbrev pub empty_cache : Limits → Cache
-empty_cache limits = record { index = empty_state limits; bytes = empty }
+empty_cache limits = record { index = empty_state limits; bytes = Some empty }
+
+-- the devices tell these bytes of a blob, if they tell any
+abbrev pub Tells : Cache → BlobName → List ℕ → Type 0
+Tells cache name bytes = IfSome cache.bytes (λ all. get all name ≡ Some bytes)
 
 -- the blob's bytes have the hash that names it, and its length and links are theirs
 pub record IsBlobOf (name : BlobName) (blob : Blob) (bytes : List ℕ) : Type 0 where
@@ -28,11 +33,6 @@ pub record IsBlobOf (name : BlobName) (blob : Blob) (bytes : List ℕ) : Type 0 
   pub length_is : blob.row.len ≡ length bytes
   pub is_object : Bool
   pub links : AreLinksOf bytes is_object blob.links
-
--- each blob has bytes, as many as its row says, and nothing else has
-pub record HasBytes (cache : Cache) : Type 0 where
-  pub each : (name : BlobName) (blob : Blob) → get cache.index.blobs name ≡ Some blob → (bytes : List ℕ) × (get cache.bytes name ≡ Some bytes) × (blob.row.len ≡ length bytes)
-  pub none_else : (name : BlobName) (bytes : List ℕ) → get cache.bytes name ≡ Some bytes → IsSome (get cache.index.blobs name)
 
 -- of each finalised object the whole closure is there
 abbrev pub AreWhole : State → Type 0
@@ -52,8 +52,10 @@ abbrev pub FirstUnsound : State → Option RefName → Type 0
 FirstUnsound s (Some name) = IsFirstUnsound s name
 FirstUnsound s None = AreWhole s
 
--- each blob has its bytes; and of each finalised object the whole closure is there
+-- each blob has its bytes, and nothing else has; and of each finalised object the whole closure is there
 pub record IsSound (cache : Cache) : Type 0 where
-  pub blobs : (name : BlobName) (blob : Blob) → get cache.index.blobs name ≡ Some blob → (bytes : List ℕ) × (get cache.bytes name ≡ Some bytes) × IsBlobOf name blob bytes
-  pub none_else : (name : BlobName) (bytes : List ℕ) → get cache.bytes name ≡ Some bytes → IsSome (get cache.index.blobs name)
+  pub all : FinMap blob_cmp (List ℕ)
+  pub told : cache.bytes ≡ Some all
+  pub blobs : (name : BlobName) (blob : Blob) → get cache.index.blobs name ≡ Some blob → (bytes : List ℕ) × (get all name ≡ Some bytes) × IsBlobOf name blob bytes
+  pub none_else : (name : BlobName) (bytes : List ℕ) → get all name ≡ Some bytes → IsSome (get cache.index.blobs name)
   pub whole : AreWhole cache.index

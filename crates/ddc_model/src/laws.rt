@@ -2,7 +2,7 @@
 ghost use Rattle.ddc_model.specs.Laws.{OneContent, LinksFit, OneListOfNeeds, WholeStaysWhole};
 ghost use Rattle.ddc_model.specs.Laws.{EmptyIsSound, SpaceStaysSound, UploadStaysSound, PutStaysSound, FinaliseStaysSound, GetStaysSound, DeleteStaysSound};
 ghost use Rattle.ddc_model.specs.Laws.{SpaceIsLegal, UploadIsLegal, PutIsLegal, FinaliseIsLegal, GetIsLegal, DeleteIsLegal};
-ghost use Rattle.ddc_model.specs.Laws.{SoundHasBytes, EntryKeepsBytes, SpaceKeepsWhole, UploadKeepsWhole, PutKeepsWhole, FinaliseKeepsWhole, GetKeepsWhole, DeleteKeepsWhole};
+ghost use Rattle.ddc_model.specs.Laws.{SoundServes, EmptyIsPlaced, LegalStaysPlaced, SpaceKeepsWhole, UploadKeepsWhole, PutKeepsWhole, FinaliseKeepsWhole, GetKeepsWhole, DeleteKeepsWhole};
 
 /// Bytes have one list of links, and are an object or none.
 pub fn one_content()
@@ -35,11 +35,19 @@ pub fn commands_stay_sound()
     ensures delete { DeleteStaysSound }
 {}
 
-/// Whatever the bytes of the blobs are, each blob keeps bytes of its length, and each finalised reference its whole
-/// closure.
+/// A sound cache serves all that its finalised references reach, with bytes of the hashes that name them.
+pub fn sound_caches_serve()
+    ensures { SoundServes }
+{}
+
+/// The blobs of a store keep apart in the blob file.
+pub fn entries_stay_placed()
+    ensures empty { EmptyIsPlaced }
+    ensures legal { LegalStaysPlaced }
+{}
+
+/// Whatever the bytes of the blobs are, each finalised reference keeps its whole closure.
 pub fn commands_keep_whole()
-    ensures sound { SoundHasBytes }
-    ensures bytes { EntryKeepsBytes }
     ensures space { SpaceKeepsWhole }
     ensures upload { UploadKeepsWhole }
     ensures put { PutKeepsWhole }

@@ -14,8 +14,8 @@ mod rows;
 pub use entry::{Entry, Step, Stored};
 pub use fault::{StoreFault, What};
 pub use laws::{
-    commands_keep_whole, commands_stay_sound, entries_are_legal, links_fit, one_content,
-    one_list_of_needs, whole_stays_whole,
+    commands_keep_whole, commands_stay_sound, entries_are_legal, entries_stay_placed, links_fit,
+    one_content, one_list_of_needs, sound_caches_serve, whole_stays_whole,
 };
 pub use name_box::NameBox;
-pub use rows::{Blob, BlobName, BlobRow, Extent, Limits, SpaceRow};
+pub use rows::{Blob, BlobName, BlobRow, Extent, Limits, MOST_BLOB_BYTES, SpaceRow};

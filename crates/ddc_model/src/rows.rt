@@ -6,6 +6,9 @@ ghost use Rattle.ddc_model.specs.Limits.{standard};
 use cb_fields::Link;
 use ddc_names::{IoHash, Namespace, Rows};
 
+/// The most bytes of a blob.
+pub const MOST_BLOB_BYTES: u64 = 67_108_864;
+
 /// How long a namespace keeps what is in it, in whole hours.
 #[derive(Clone, Copy, Debug, PartialEq, Eq)]
 pub struct SpaceRow {

@@ -1,7 +1,5 @@
-pub mod Steps
-pub mod Bodies
-pub mod Added
+pub mod Both
 pub mod Once
 pub mod Replaying
-pub mod Loading
 pub mod Creating
+pub mod Loading

@@ -1,5 +1,6 @@
 pub mod Opening
-pub mod Tables
 pub mod Loading
 pub mod Laws
+pub mod Changes
+pub mod BytesIn
 pub mod inside

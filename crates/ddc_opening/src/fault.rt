@@ -15,7 +15,7 @@ pub enum OpenFault {
     /// A journal file isn't as it is written, or has a body that is no entry or none that fits.
     #[error("corrupt file {file} at {at}")]
     Corrupt {
-        /// The file's number: 0 for the first.
+        /// The file's number: 0, or 1 for the second of the two.
         file: u8,
         /// The place in bytes: 0 where the first bytes are others, 20 where the file ends after its
         /// gate, and else that of the gate whose item isn't whole or whose body is no entry that fits.

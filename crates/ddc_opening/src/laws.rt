@@ -1,16 +1,17 @@
-//! What holds of every file.
+//! What holds of the files of every store.
 
-ghost use Rattle.ddc_opening.specs.Laws.{OneHolding, OpensOrFails, OneOpenFault};
+ghost use Rattle.ddc_opening.specs.Laws.{OneHolding, OneOpening, OpensOrFails, OneOpenFault};
 
-use ddc_entry::one_front;
-use ddc_journal::one_reading;
+use ddc_entry::one_entry;
+use ddc_journal::one_pair_reading;
 
-/// Proves that a file opens to at most one state, or has one fault. It does nothing.
+/// Proves that devices open to at most one state, or have one fault. It does nothing.
 pub fn one_opening()
     ensures holding { OneHolding }
+    ensures opening { OneOpening }
     ensures exclusive { OpensOrFails }
     ensures fault { OneOpenFault }
 {
-    one_front();
-    one_reading();
+    one_entry();
+    one_pair_reading();
 }

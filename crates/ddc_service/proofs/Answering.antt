@@ -1,49 +1,38 @@
 -- What comes of a request, by what the book's call gives and by how the reply was written.
 use Rattle.std.proofs.Common.{◌≡◌, ◌⊎◌, ℕ, ◌≤◌, List, [], ◌∷◌, ◌++◌, Bool, true, false, Option, Some, None, Result, Ok, Err, refl, sym, ap, ◌∙◌, subst, inl, inr, arith}
-use Rattle.std.specs.Prelude.{if◌then◌else◌}
-use Rattle.std.specs.FinMap.{get}
 use Rattle.ddc_names.specs.declared.hash.IoHash.{IoHash}
+use Rattle.ddc_names.specs.declared.reference.RefName.{RefName}
 use Rattle.ddc_names.specs.Causes.{Rose}
 use Rattle.ddc_link.specs.Writes.{AppendsFront}
-use Rattle.ddc_disk.specs.Disk.{Meaning}
+use Rattle.ddc_disk.specs.Disk.{Meaning, EachSince}
 use Rattle.ddc_model.specs.declared.entry.Entry.{Entry}
-use Rattle.ddc_model.specs.declared.entry.Step.{Step}
-use Rattle.ddc_model.specs.declared.entry.Step.TheVariants.{Loaded, Change, Broke}
+use Rattle.ddc_model.specs.declared.entry.Step.TheVariants.{Change}
 use Rattle.ddc_model.specs.declared.fault.StoreFault.{StoreFault}
 use Rattle.ddc_model.specs.declared.fault.StoreFault.TheVariants.{UnknownSpace, NotFound, NotFinalised, NotPending, Full, HistoryFull, Broken, DiskFailed, Damaged}
 use Rattle.ddc_model.specs.declared.fault.StoreFault.TheVariants as faults
-use Rattle.ddc_model.specs.State.{blob_name, has_space}
-use Rattle.ddc_model.specs.Entries.{same_hash}
-use Rattle.ddc_model.specs.Content.{content_hash}
+use Rattle.ddc_model.specs.State.{State}
 use Rattle.ddc_model.specs.Sound.{Cache}
-use Rattle.ddc_model.specs.Commands.{changed, found}
-use Rattle.ddc_model.specs.History.{Past, none_yet, past_of, one_entry_more, broken_by, unless_broken, broken_or}
-use Rattle.ddc_model.specs.Reads.{serve, served}
+use Rattle.ddc_model.specs.Commands.{changed}
+use Rattle.ddc_model.specs.History.{Past, none_yet, past_of, one_entry_more, broken_by}
+use Rattle.ddc_model.specs.Reads.{ServesAs, HeldAs}
 use Rattle.ddc_book.specs.declared.reads.Held.{Held}
 use Rattle.ddc_book.specs.declared.reads.Opened.{Opened}
 use Rattle.ddc_book.specs.declared.reads.Opened.TheVariants.{Whole}
-use Rattle.ddc_book.specs.View.{BookView, limits_of, book_faults}
-use Rattle.ddc_book.specs.Calls.{Becomes, CommandMakes, Breaks, CommandGives, GoesOn, got, opened_bytes}
-use Rattle.ddc_protocol.specs.Requests.{Item}
+use Rattle.ddc_book.specs.View.{BookView, limits_of, book_faults, book_line}
+use Rattle.ddc_book.specs.Calls.{Becomes, CommandMakes, BreaksWriting, BreaksReading, CommandGives, ReaderGives, Only, GoesOn, OpensWhole, broke, next_cache, got, opened_bytes}
+use Rattle.ddc_protocol.specs.Requests.{Item, get_blob, get_ref}
 use Rattle.ddc_http.specs.declared.reply.WriteFault.{WriteFault}
 use Rattle.ddc_http.specs.declared.reply.WriteFault.TheVariants.{Failed, NoMemory}
 use Rattle.ddc_service.specs.declared.session.SessionEnd.TheVariants as ends
 use Rattle.ddc_service.specs.declared.session.Turn.TheVariants.{Over}
 use Rattle.ddc_service.specs.Effects.{Effect, Bytes}
-use Rattle.ddc_service.specs.Replies.{OpenStore, store_after, says_damaged, ItemCommand, OnlyAnswers, item_command, IsReply, failed_reply}
+use Rattle.ddc_service.specs.Replies.{OpenStore, store_after, says_damaged, ItemCommand, item_command, IsReply, FailsAt, ReadsBytes, failed_reply}
 use Rattle.ddc_service.specs.Session.{store_of}
-use Rattle.ddc_service.specs.inside.Writes.{WritesAs, RequestEnds, AnswersRequest, SinkCounts, written_turn, damaged_turn, turn_of}
-use Rattle.ddc_book.proofs.Kept.{after_limits}
+use Rattle.ddc_service.specs.inside.Writes.{WritesAs, RequestEnds, RequestGoes, Goes, AnswersRequest, SinkCounts, written_turn, damaged_turn, turn_of}
+use Rattle.ddc_book.proofs.Limits.{after_limits}
 use Rattle.ddc_book.proofs.Steps.{past_more}
+use Rattle.ddc_service.proofs.Becoming.{next_by, becomes_cache, becomes_next, becomes_limits, becomes_unbroken}
 use Rattle.ddc_service.proofs.Writing.{whole_front, no_text}
-
--- ---- steps after others
-
-broken_more : (steps : List Step) (entry : Entry) → broken_by (steps ++ Change entry ∷ []) ≡ broken_by steps
-broken_more [] entry = refl
-broken_more (Loaded limits count ∷ steps) entry = broken_more steps entry
-broken_more (Change other ∷ steps) entry = broken_more steps entry
-broken_more (Broke changed before now ∷ steps) entry = refl
 
 -- a fault told apart from another
 fault_is : {A : Type 0} (fault other : StoreFault) → ◌≡◌ {A = Result A StoreFault} (Err fault) (Err other) → fault ≡ other
@@ -89,31 +78,59 @@ damaged_ends (Err NoMemory) e = cc
 
 -- ---- one request
 
-module _ {D : Type 0} (tells : Bool) (meaning : D → Meaning) (sink : Effect Bytes) (close : Bool) (hour : ℕ) (book next : BookView D) (unbroken : broken_by book.steps ≡ None) (devices : (next ≡ book) ⊎ GoesOn tells meaning book next) where
+module _ {D : Type 0} (tells : Bool) (meaning : D → Meaning) (sink : Effect Bytes) (close : Bool) (hour : ℕ) (book next : BookView D) (unbroken : broken_by book.steps ≡ None) where
   abbrev store : OpenStore
   store = store_of book
 
   abbrev left : OpenStore
   left = store_of next
 
-  becomes_store : (bytes : List ℕ) (made : Option Entry) → Becomes book bytes next made → left ≡ store_after store bytes made
-  becomes_store bytes None is = ap (λ (b : BookView D). store_of b) is
+  becomes_store : (bytes : List ℕ) (made : Option Entry) → Becomes meaning book bytes next made → left ≡ store_after store bytes made
+  becomes_store bytes None still = store_is next.cache book.cache (past_of next.steps) (past_of book.steps) still.cache (ap past_of still.steps)
   becomes_store bytes (Some entry) (cache, steps) = store_is next.cache (changed book.cache bytes (Some entry)) (past_of next.steps) (one_entry_more (past_of book.steps) entry) cache (ap past_of steps ∙ past_more none_yet book.steps (Change entry ∷ []))
 
-  becomes_limits : (bytes : List ℕ) (made : Option Entry) → Becomes book bytes next made → limits_of next ≡ limits_of book
-  becomes_limits bytes None is = ap (λ (b : BookView D). limits_of b) is
-  becomes_limits bytes (Some entry) (cache, steps) = ap (λ (c : Cache). c.index.limits) cache ∙ after_limits book.cache.index entry
+  goes_to : (bytes : List ℕ) (cache : Cache) → GoesOn tells meaning book bytes next → next_cache book bytes next ≡ cache → Goes tells meaning book cache next
+  goes_to bytes cache goes is = record {
+    reaches = goes.reaches;
+    crash = λ tell ok reach.
+        let P : Cache → Type 0 = λ c. EachSince (book_line meaning book) (book_line meaning next) (λ im. OpensWhole (limits_of book) im book.cache ⊎ OpensWhole (limits_of book) im c) in
+        subst P is (goes.crash tell ok reach);
+  }
 
-  becomes_unbroken : (bytes : List ℕ) (made : Option Entry) → Becomes book bytes next made → broken_by next.steps ≡ None
-  becomes_unbroken bytes None is = ap (λ (b : BookView D). broken_by b.steps) is ∙ unbroken
-  becomes_unbroken bytes (Some entry) (cache, steps) = ap broken_by steps ∙ broken_more book.steps entry ∙ unbroken
-
-  module _ (item : Item) where
+  module _ (item : Item) (goes_on : GoesOn tells meaning book (item_command hour (store_of book) item).bytes next) where
     abbrev c : ItemCommand
     c = item_command hour store item
 
-    made : (answer : Result c.Value StoreFault) → CommandMakes book c.bytes next c.Command answer → IsReply (says_damaged answer) close hour store item (c.reply close answer) left
+    -- what a command gives, that may read bytes too
+    abbrev pub Gives : Result c.Value StoreFault → Type 0
+    Gives (Err DiskFailed) = BreaksWriting meaning book next c.Command ⊎ (ReadsBytes item × BreaksReading meaning book next)
+    Gives answer = CommandGives meaning book c.bytes next c.Command answer
+
+    pub command_gives : (answer : Result c.Value StoreFault) → CommandGives meaning book c.bytes next c.Command answer → Gives answer
+    command_gives (Ok value) given = given
+    command_gives (Err (Broken count)) given = given
+    command_gives (Err UnknownSpace) given = given
+    command_gives (Err NotFound) given = given
+    command_gives (Err NotFinalised) given = given
+    command_gives (Err NotPending) given = given
+    command_gives (Err (Full what limit)) given = given
+    command_gives (Err (HistoryFull entries links)) given = given
+    command_gives (Err faults.NoMemory) given = given
+    command_gives (Err DiskFailed) given = inl given
+    command_gives (Err (Damaged name found)) given = given
+
+    made : (answer : Result c.Value StoreFault) → CommandMakes meaning book c.bytes next c.Command answer → IsReply (says_damaged answer) close hour store item (c.reply close answer) left
     made answer (_, entry, given, becomes) = (answer, entry, given, refl, becomes_store c.bytes entry becomes, refl)
+
+    written_goes : (written : Result (Unit {0}) WriteFault) → Goes tells meaning book next.cache next → RequestGoes tells meaning hour item book next (written_turn written)
+    written_goes (Ok u) goes = goes
+    written_goes (Err Failed) goes = goes
+    written_goes (Err NoMemory) goes = goes
+
+    damaged_goes : (written : Result (Unit {0}) WriteFault) → Goes tells meaning book next.cache next → RequestGoes tells meaning hour item book next (damaged_turn written)
+    damaged_goes (Ok u) goes = goes
+    damaged_goes (Err Failed) goes = goes
+    damaged_goes (Err NoMemory) goes = goes
 
     fine_turned : (answer : Result c.Value StoreFault) (written : Result (Unit {0}) WriteFault) → IsReply false close hour store item (c.reply close answer) left → WritesAs sink (c.reply close answer) written
         → RequestEnds sink close hour store item left (written_turn written)
@@ -121,13 +138,14 @@ module _ {D : Type 0} (tells : Bool) (meaning : D → Meaning) (sink : Effect By
     fine_turned answer (Err Failed) is w = (false, c.reply close answer, is, w.0)
     fine_turned answer (Err NoMemory) is w = (w.0, inr (c.reply close answer, is))
 
-    fine : (answer : Result c.Value StoreFault) (written : Result (Unit {0}) WriteFault) → says_damaged answer ≡ false → CommandMakes book c.bytes next c.Command answer → WritesAs sink (c.reply close answer) written
+    fine : (answer : Result c.Value StoreFault) (written : Result (Unit {0}) WriteFault) → says_damaged answer ≡ false → CommandMakes meaning book c.bytes next c.Command answer → WritesAs sink (c.reply close answer) written
         → AnswersRequest tells meaning sink close hour book item next (written_turn written)
     fine answer written sound (ready, entry, given, becomes) w = record {
       turned = fine_turned answer written (subst (λ (d : Bool). IsReply d close hour store item (c.reply close answer) left) sound (made answer (ready, entry, given, becomes))) w;
-      devices = devices;
-      limits = becomes_limits c.bytes entry becomes;
-      unbroken = λ _. becomes_unbroken c.bytes entry becomes;
+      goes = written_goes written (goes_to c.bytes next.cache goes_on (becomes_next book next c.bytes meaning entry becomes ∙ sym (becomes_cache book next c.bytes meaning entry becomes)));
+      limits = becomes_limits book next c.bytes meaning entry becomes;
+      unbroken = λ _. becomes_unbroken book next c.bytes meaning unbroken entry becomes;
+      later = goes_on.later;
       counts = written_counts sink (c.reply close answer) written w;
       disk = λ e. absurd (written_goes_on written e);
     }
@@ -138,45 +156,72 @@ module _ {D : Type 0} (tells : Bool) (meaning : D → Meaning) (sink : Effect By
     damaged_turned answer (Err Failed) is w = (true, c.reply close answer, is, w.0)
     damaged_turned answer (Err NoMemory) is w = (c.reply close answer, is, no_text sink.before sink.after (c.reply close answer) w.0)
 
-    damaged : (name found : IoHash) (written : Result (Unit {0}) WriteFault) → CommandMakes book c.bytes next c.Command (Err (Damaged name found)) → WritesAs sink (c.reply close (Err (Damaged name found))) written
+    damaged : (name found : IoHash) (written : Result (Unit {0}) WriteFault) → CommandMakes meaning book c.bytes next c.Command (Err (Damaged name found)) → WritesAs sink (c.reply close (Err (Damaged name found))) written
         → AnswersRequest tells meaning sink close hour book item next (damaged_turn written)
     damaged name found written (ready, entry, given, becomes) w = record {
       turned = damaged_turned (Err (Damaged name found)) written (made (Err (Damaged name found)) (ready, entry, given, becomes)) w;
-      devices = devices;
-      limits = becomes_limits c.bytes entry becomes;
-      unbroken = λ _. becomes_unbroken c.bytes entry becomes;
+      goes = damaged_goes written (goes_to c.bytes next.cache goes_on (becomes_next book next c.bytes meaning entry becomes ∙ sym (becomes_cache book next c.bytes meaning entry becomes)));
+      limits = becomes_limits book next c.bytes meaning entry becomes;
+      unbroken = λ _. becomes_unbroken book next c.bytes meaning unbroken entry becomes;
+      later = goes_on.later;
       counts = damaged_counts sink (c.reply close (Err (Damaged name found))) written w;
       disk = λ e. absurd (damaged_ends written e);
     }
 
-    breaks : (written : Result (Unit {0}) WriteFault) → c.reply close (Err DiskFailed) ≡ failed_reply → Breaks book c.bytes next c.Command → Rose (book_faults meaning book) (book_faults meaning next) → WritesAs sink (c.reply close (Err DiskFailed)) written
-        → AnswersRequest tells meaning sink close hour book item next (Over ends.DiskFailed)
-    breaks written text (_, value, entry, count, risen, given, cache, steps) cause w =
-        let is : left ≡ store_after store c.bytes (Some entry) = store_is next.cache (changed book.cache c.bytes (Some entry)) (past_of next.steps) (one_entry_more (past_of book.steps) entry) cache (ap past_of steps ∙ past_more none_yet book.steps (Change entry ∷ Broke true count risen ∷ [])) in
-        record {
-          turned = ((value, entry, given, is), subst (AppendsFront sink.before sink.after) text (any_front sink (c.reply close (Err DiskFailed)) written w));
-          devices = devices;
-          limits = ap (λ (c : Cache). c.index.limits) cache ∙ after_limits book.cache.index entry;
-          unbroken = λ other. absurd (other refl);
-          counts = later_count sink (c.reply close (Err DiskFailed)) written w;
-          disk = λ _. cause;
-        }
+    -- the disks failed as a change was written
+    abbrev failed_write : (value : c.Value) (entry : Entry) → c.Command (Ok value) (Some entry) → next.cache.index ≡ (changed book.cache [] (Some entry)).index → next.steps ≡ book.steps ++ Change entry ∷ broke meaning true book next ∷ []
+        → FailsAt (Some hour) store item left
+    failed_write value entry given index steps = record {
+      final = store_after store c.bytes (Some entry);
+      either = inl (hour, refl, (value, entry, given, refl));
+      seen_as = record { index = index; past = ap past_of steps ∙ past_more none_yet book.steps (Change entry ∷ broke meaning true book next ∷ []) };
+    }
 
-    starves : (text : List ℕ) (written : Result (Unit {0}) WriteFault) → next ≡ book → written ≡ Err NoMemory → WritesAs sink text written
+    -- they failed as bytes were read
+    abbrev failed_read : ReadsBytes item → next.cache ≡ book.cache → next.steps ≡ book.steps ++ broke meaning false book next ∷ [] → FailsAt (Some hour) store item left
+    failed_read reads cache steps = record {
+      final = store;
+      either = inr (reads, refl);
+      seen_as = record { index = ap (λ (c : Cache). c.index) cache; past = ap past_of steps ∙ past_more none_yet book.steps (broke meaning false book next ∷ []) };
+    }
+
+    breaks : (written : Result (Unit {0}) WriteFault) → c.reply close (Err DiskFailed) ≡ failed_reply → Gives (Err DiskFailed) → Rose (book_faults meaning book) (book_faults meaning next) → WritesAs sink (c.reply close (Err DiskFailed)) written
+        → AnswersRequest tells meaning sink close hour book item next (Over ends.DiskFailed)
+    breaks written text (inl (_, value, entry, given, index, steps)) cause w = record {
+      turned = (failed_write value entry given index steps, subst (AppendsFront sink.before sink.after) text (any_front sink (c.reply close (Err DiskFailed)) written w));
+      goes = (failed_write value entry given index steps, goes_to c.bytes (changed book.cache c.bytes (Some entry)) goes_on (next_by book next c.bytes (Change entry ∷ broke meaning true book next ∷ []) steps));
+      limits = ap (λ (s : State). s.limits) index ∙ after_limits book.cache.index entry;
+      unbroken = λ other. absurd (other refl);
+      later = goes_on.later;
+      counts = later_count sink (c.reply close (Err DiskFailed)) written w;
+      disk = λ _. cause;
+    }
+    breaks written text (inr (reads, (_, cache, steps))) cause w = record {
+      turned = (failed_read reads cache steps, subst (AppendsFront sink.before sink.after) text (any_front sink (c.reply close (Err DiskFailed)) written w));
+      goes = (failed_read reads cache steps, goes_to c.bytes book.cache goes_on (next_by book next c.bytes (broke meaning false book next ∷ []) steps));
+      limits = ap (λ (c : Cache). c.index.limits) cache;
+      unbroken = λ other. absurd (other refl);
+      later = goes_on.later;
+      counts = later_count sink (c.reply close (Err DiskFailed)) written w;
+      disk = λ _. cause;
+    }
+
+    starves : (text : List ℕ) (written : Result (Unit {0}) WriteFault) → Becomes meaning book c.bytes next None → written ≡ Err NoMemory → WritesAs sink text written
         → AnswersRequest tells meaning sink close hour book item next (written_turn written)
-    starves text (Ok u) same none w = absurd (cc)
-    starves text (Err Failed) same none w = absurd (cc)
-    starves text (Err NoMemory) same none w = record {
-      turned = (w.0, inl (ap (λ (b : BookView D). store_of b) same));
-      devices = devices;
-      limits = ap (λ (b : BookView D). limits_of b) same;
-      unbroken = λ _. ap (λ (b : BookView D). broken_by b.steps) same ∙ unbroken;
+    starves text (Ok u) still none w = absurd (cc)
+    starves text (Err Failed) still none w = absurd (cc)
+    starves text (Err NoMemory) still none w = record {
+      turned = (w.0, inl (becomes_store c.bytes None still));
+      goes = goes_to c.bytes next.cache goes_on (becomes_next book next c.bytes meaning None still ∙ sym (becomes_cache book next c.bytes meaning None still));
+      limits = becomes_limits book next c.bytes meaning None still;
+      unbroken = λ _. becomes_unbroken book next c.bytes meaning unbroken None still;
+      later = goes_on.later;
       counts = w.1;
       disk = λ e. absurd (cc);
     }
 
     -- whatever the book answered
-    pub answers : (answer : Result c.Value StoreFault) (written : Result (Unit {0}) WriteFault) → c.reply close (Err DiskFailed) ≡ failed_reply → CommandGives book c.bytes next c.Command answer
+    pub answers : (answer : Result c.Value StoreFault) (written : Result (Unit {0}) WriteFault) → c.reply close (Err DiskFailed) ≡ failed_reply → Gives answer
         → (answer ≡ Err DiskFailed → Rose (book_faults meaning book) (book_faults meaning next)) → (answer ≡ Err faults.NoMemory → written ≡ Err NoMemory) → WritesAs sink (c.reply close answer) written
         → AnswersRequest tells meaning sink close hour book item next (turn_of answer written)
     answers (Ok value) written text given cause none w = fine (Ok value) written refl given w
@@ -193,8 +238,10 @@ module _ {D : Type 0} (tells : Bool) (meaning : D → Meaning) (sink : Effect By
 
 -- ---- the object of a reference
 
-module _ {D : Type 0} (book next : BookView D) (Command : Result (IoHash × List ℕ) StoreFault → Option Entry → Type 0) where
-  pub got_gives : (answer : Result Held StoreFault) → CommandGives book [] next (λ held made. Command (got held) made) answer → CommandGives book [] next Command (got answer)
+module _ {D : Type 0} (tells : Bool) (meaning : D → Meaning) (sink : Effect Bytes) (close : Bool) (hour : ℕ) (book next : BookView D) (unbroken : broken_by book.steps ≡ None)
+    (name : RefName) (goes_on : GoesOn tells meaning book [] next) where
+  pub got_gives : (answer : Result Held StoreFault) → ReaderGives meaning book next (λ held made. HeldAs book.cache (past_of book.steps) name hour (got held) made) answer
+      → Gives tells meaning sink close hour book next unbroken (get_ref name) goes_on (got answer)
   got_gives (Ok held) given = given
   got_gives (Err (Broken count)) given = given
   got_gives (Err UnknownSpace) given = given
@@ -204,7 +251,8 @@ module _ {D : Type 0} (book next : BookView D) (Command : Result (IoHash × List
   got_gives (Err (Full what limit)) given = given
   got_gives (Err (HistoryFull entries links)) given = given
   got_gives (Err faults.NoMemory) given = given
-  got_gives (Err DiskFailed) (ready, held, entry, before, now, given, cache, steps) = (ready, (held.hash, held.bytes), entry, before, now, given, cache, steps)
+  got_gives (Err DiskFailed) (inl (ready, held, entry, given, index, steps)) = inl (ready, (held.hash, held.bytes), entry, given, index, steps)
+  got_gives (Err DiskFailed) (inr breaks) = inr (tt, breaks)
   got_gives (Err (Damaged name found)) given = given
 
 pub got_fault : (answer : Result Held StoreFault) (fault : StoreFault) → got answer ≡ Err fault → answer ≡ Err fault
@@ -217,70 +265,27 @@ got_turn (Err fault) written = refl
 
 -- ---- the bytes of a blob
 
--- no fault of the store as a whole comes of looking a blob up
-abbrev pub IsOfBlob : StoreFault → Type 0
-IsOfBlob (Broken count) = ⊥
-IsOfBlob DiskFailed = ⊥
-IsOfBlob other = Unit {0}
+module _ {D : Type 0} (tells : Bool) (meaning : D → Meaning) (sink : Effect Bytes) (close : Bool) (hour : ℕ) (book next : BookView D) (unbroken : broken_by book.steps ≡ None)
+    (space : List ℕ) (hash : IoHash) (goes_on : GoesOn tells meaning book [] next) where
+  pub opened_gives : (answer : Result Opened StoreFault) → ReaderGives meaning book next (Only (λ opened. ServesAs book.cache space hash (opened_bytes opened))) answer
+      → Gives tells meaning sink close hour book next unbroken (get_blob space hash) goes_on (opened_bytes answer)
+  opened_gives (Ok (Whole bytes)) given = given
+  opened_gives (Err (Broken count)) given = given
+  opened_gives (Err UnknownSpace) given = given
+  opened_gives (Err NotFound) given = given
+  opened_gives (Err NotFinalised) given = given
+  opened_gives (Err NotPending) given = given
+  opened_gives (Err (Full what limit)) given = given
+  opened_gives (Err (HistoryFull entries links)) given = given
+  opened_gives (Err faults.NoMemory) given = given
+  opened_gives (Err DiskFailed) (inl (ready, opened, entry, (serves, none), index, steps)) = absurd (cc)
+  opened_gives (Err DiskFailed) (inr breaks) = inr (tt, breaks)
+  opened_gives (Err (Damaged name found)) given = given
 
-abbrev pub IsOfBlobs : Result (List ℕ) StoreFault → Type 0
-IsOfBlobs (Ok bytes) = Unit {0}
-IsOfBlobs (Err fault) = IsOfBlob fault
+pub opened_fault : (answer : Result Opened StoreFault) (fault : StoreFault) → opened_bytes answer ≡ Err fault → answer ≡ Err fault
+opened_fault (Ok (Whole bytes)) fault e = absurd (cc)
+opened_fault (Err other) fault e = let same : other ≡ fault = fault_is other fault e in ap (λ (f : StoreFault). let r : Result Opened StoreFault = Err f in r) same
 
-of_test : (hash other : IoHash) (bytes : List ℕ) (same : Bool) → IsOfBlobs (if same then Ok bytes else Err (Damaged hash other))
-of_test hash other bytes true = tt
-of_test hash other bytes false = tt
-
-of_found : (hash : IoHash) (blob : Option (List ℕ)) → IsOfBlobs (served hash (found blob))
-of_found hash (Some bytes) = of_test hash (content_hash bytes) bytes (same_hash (content_hash bytes) hash)
-of_found hash None = tt
-
-of_space : (hash : IoHash) (blob : Option (List ℕ)) (there : Bool) → IsOfBlobs (served hash (if there then found blob else Err UnknownSpace))
-of_space hash blob true = of_found hash blob
-of_space hash blob false = tt
-
-pub is_of_blobs : (cache : Cache) (space : List ℕ) (hash : IoHash) → IsOfBlobs (serve cache space hash)
-is_of_blobs cache space hash = of_space hash (get cache.bytes (blob_name space hash)) (has_space cache.index space)
-
-module _ {D : Type 0} (book next : BookView D) (unbroken : broken_by book.steps ≡ None) (same : next ≡ book) where
-  fetch_gives : (served : Result (List ℕ) StoreFault) → IsOfBlobs served → CommandGives book [] next (OnlyAnswers served) served
-  fetch_gives (Ok bytes) is = (unbroken, None, (refl, refl), same)
-  fetch_gives (Err (Broken count)) is = absurd is
-  fetch_gives (Err UnknownSpace) is = (unbroken, None, (refl, refl), same)
-  fetch_gives (Err NotFound) is = (unbroken, None, (refl, refl), same)
-  fetch_gives (Err NotFinalised) is = (unbroken, None, (refl, refl), same)
-  fetch_gives (Err NotPending) is = (unbroken, None, (refl, refl), same)
-  fetch_gives (Err (Full what limit)) is = (unbroken, None, (refl, refl), same)
-  fetch_gives (Err (HistoryFull entries links)) is = (unbroken, None, (refl, refl), same)
-  fetch_gives (Err faults.NoMemory) is = (unbroken, same)
-  fetch_gives (Err DiskFailed) is = absurd is
-  fetch_gives (Err (Damaged name found)) is = (unbroken, None, (refl, refl), same)
-
-  pub whole_gives : (space : List ℕ) (hash : IoHash) (answer : Result Opened StoreFault) → (answer ≡ Err faults.NoMemory) ⊎ (opened_bytes answer ≡ unless_broken book.steps (serve book.cache space hash))
-      → CommandGives book [] next (OnlyAnswers (serve book.cache space hash)) (opened_bytes answer)
-  whole_gives space hash answer given = elim given [
-    | inl e ↦ subst (λ (r : Result Opened StoreFault). CommandGives book [] next (OnlyAnswers (serve book.cache space hash)) (opened_bytes r)) (sym e) (unbroken, same)
-    | inr e ↦
-        let is : opened_bytes answer ≡ serve book.cache space hash = e ∙ ap (λ (b : Option ℕ). broken_or b (serve book.cache space hash)) unbroken in
-        subst (λ (r : Result (List ℕ) StoreFault). CommandGives book [] next (OnlyAnswers (serve book.cache space hash)) r) (sym is) (fetch_gives (serve book.cache space hash) (is_of_blobs book.cache space hash))
-  ]
-
-pub whole_fault : (answer : Result Opened StoreFault) (fault : StoreFault) → opened_bytes answer ≡ Err fault → answer ≡ Err fault
-whole_fault (Ok (Whole bytes)) fault e = absurd (cc)
-whole_fault (Err other) fault e = let same : other ≡ fault = fault_is other fault e in ap (λ (f : StoreFault). let r : Result Opened StoreFault = Err f in r) same
-
-pub whole_turn : (answer : Result Opened StoreFault) (written : Result (Unit {0}) WriteFault) → turn_of (opened_bytes answer) written ≡ turn_of answer written
-whole_turn (Ok (Whole bytes)) written = refl
-whole_turn (Err fault) written = refl
-
-no_disk : (served : Result (List ℕ) StoreFault) → IsOfBlobs served → served ≡ Err DiskFailed → ⊥
-no_disk (Ok bytes) is e = cc
-no_disk (Err fault) is e = subst IsOfBlob (fault_is fault DiskFailed e) is
-
--- a look-up ends in no fault of a disk
-pub whole_sure : (cache : Cache) (steps : List Step) (space : List ℕ) (hash : IoHash) (answer : Result Opened StoreFault) → broken_by steps ≡ None → (answer ≡ Err faults.NoMemory) ⊎ (opened_bytes answer ≡ unless_broken steps (serve cache space hash))
-    → opened_bytes answer ≡ Err DiskFailed → ⊥
-whole_sure cache steps space hash answer unbroken given e = elim given [
-  | inl none ↦ let both : ◌≡◌ {A = Result (List ℕ) StoreFault} (Err faults.NoMemory) (Err DiskFailed) = sym (ap (λ (r : Result Opened StoreFault). opened_bytes r) none) ∙ e in cc
-  | inr is ↦ no_disk (serve cache space hash) (is_of_blobs cache space hash) (sym (is ∙ ap (λ (b : Option ℕ). broken_or b (serve cache space hash)) unbroken) ∙ e)
-]
+pub opened_turn : (answer : Result Opened StoreFault) (written : Result (Unit {0}) WriteFault) → turn_of (opened_bytes answer) written ≡ turn_of answer written
+opened_turn (Ok (Whole bytes)) written = refl
+opened_turn (Err fault) written = refl

@@ -1,5 +1,5 @@
 -- What an item's answer changes of the store.
-use Rattle.std.proofs.Common.{◌≡◌, ◌⊎◌, ℕ, ◌+◌, List, [], Bool, true, false, Option, Some, None, Result, Ok, Err, refl, ap, ◌∙◌, inl, inr, arith}
+use Rattle.std.proofs.Common.{◌≡◌, ◌≢◌, ◌⊎◌, ℕ, List, Bool, true, false, Option, Some, None, Result, Ok, Err, refl, ap, ◌∙◌, inl, inr}
 use Rattle.ddc_names.specs.declared.hash.IoHash.{IoHash}
 use Rattle.ddc_names.specs.declared.reference.RefName.{RefName}
 use Rattle.ddc_model.specs.declared.entry.Entry.{Entry}
@@ -9,13 +9,14 @@ use Rattle.ddc_model.specs.Content.{Content}
 use Rattle.ddc_model.specs.Sound.{Cache}
 use Rattle.ddc_model.specs.Commands.{EntryWhere, UploadAs, upload_entry, PutAs, PutWhere, put_fault, FinaliseAs, FinaliseWhere, is_done}
 use Rattle.ddc_model.specs.History.{Past, WithRoom, RoomWhere, no_room_for}
-use Rattle.ddc_model.specs.Reads.{serve, HeldAs, HeldWhere, ServedWhere, undamaged}
+use Rattle.ddc_model.specs.Reads.{ServesAs, HeldAs, HeldWhere, ServedWhere, undamaged}
+use Rattle.ddc_book.specs.Calls.{Only}
 use Rattle.ddc_protocol.specs.Requests.{Item, put_blob, get_blob, put_ref, get_ref, finalise, mismatch, not_object}
 use Rattle.ddc_service.specs.declared.session.SessionEnd.TheVariants.{Closed, Unread, Cut, Spent, ReadFailed, WriteFailed, DiskFailed, Damaged, NoMemory}
 use Rattle.ddc_service.specs.declared.session.Turn.{Turn}
 use Rattle.ddc_service.specs.declared.session.Turn.TheVariants.{Answered, Over}
 use Rattle.ddc_service.specs.Effects.{Effect, Bytes}
-use Rattle.ddc_service.specs.Replies.{OpenStore, store_after, says_damaged, ItemCommand, OnlyAnswers, item_command, IsReplyBy, IsChangeBy, IsReplyAt, IsChangeAt}
+use Rattle.ddc_service.specs.Replies.{OpenStore, store_after, says_damaged, ItemCommand, IsFine, item_command, IsReplyBy, IsChangeBy, IsReplyAt, IsChangeAt, ReadsBytes, FailsAt}
 use Rattle.ddc_service.specs.inside.Turns.{Reading, TookItem, TurnAs}
 
 -- ---- a refusal makes nothing
@@ -57,18 +58,18 @@ module _ {A : Type 0} (s : State) (past : Past) (Command : Result A StoreFault �
   none_with_room : MakesNone (WithRoom s past Command)
   none_with_room fault made (wished, entry, given, room) = none_by_room (no_room_for s past entry) wished entry given fault made room
 
-none_by_one : {A : Type 0} (known : Result A StoreFault) → MakesNone (OnlyAnswers known)
-none_by_one known fault made (e, is) = is
+none_by_one : {A : Type 0} (Answers : Result A StoreFault → Type 0) → MakesNone (Only Answers)
+none_by_one Answers fault made (e, is) = is
 
 -- no item's command makes an entry where it answers a fault
 none_by_item : (hour : ℕ) (store : OpenStore) (item : Item) → MakesNone (item_command hour store item).Command
 none_by_item hour store (put_blob space content) = let s = store.cache.index in none_with_room s store.past (UploadAs s space content hour) (none_by_entry (upload_entry s space content hour))
-none_by_item hour store (get_blob space hash) = none_by_one (serve store.cache space hash)
+none_by_item hour store (get_blob space hash) = none_by_one (ServesAs store.cache space hash)
 none_by_item hour store (put_ref name content) = let s = store.cache.index in none_with_room s store.past (PutAs s name content hour) (none_by_put (put_fault s name content hour) s name content hour)
 none_by_item hour store (get_ref name) = none_by_get store.cache store.past name hour
 none_by_item hour store (finalise name hash) = let s = store.cache.index in none_with_room s store.past (FinaliseAs s name hash hour) (none_by_finalise (is_done s name hash) s name hash hour)
-none_by_item hour store (mismatch expected found) = let fine : Result (Unit {0}) StoreFault = Ok tt in none_by_one fine
-none_by_item hour store (not_object at) = let fine : Result (Unit {0}) StoreFault = Ok tt in none_by_one fine
+none_by_item hour store (mismatch expected found) = none_by_one IsFine
+none_by_item hour store (not_object at) = none_by_one IsFine
 
 -- ---- what is damaged stays
 
@@ -86,37 +87,36 @@ module _ (c : ItemCommand) (store next : OpenStore) where
   change_replies : (close : Bool) → IsChangeBy c store next → (text : List ℕ) × IsReplyBy c false close store text next
   change_replies close (value, entry, given, is) = (c.reply close (Ok value), (Ok value, Some entry, given, refl, is, refl))
 
-  change_more : IsChangeBy c store next → next.past.entries ≡ store.past.entries + 1
-  change_more (value, entry, given, is) = ap (λ (o : OpenStore). o.past.entries) is
-
--- so it changes something
-pub changes_something : (told : Option ℕ) (store : OpenStore) (item : Item) (next : OpenStore) → IsChangeAt told store item next → next ≡ store → ⊥
-changes_something told store item next (hour, tells, changes) same =
-    let more = change_more (item_command hour store item) store next changes in
-    let kept : next.past.entries ≡ store.past.entries = ap (λ (o : OpenStore). o.past.entries) same in
-    omega (arith, more, kept)
-
 -- ---- one turn
 
-module _ (told : Option ℕ) (r : Reading) (close : Bool) (sink : Effect Bytes) (store next : OpenStore) where
+module _ (told : Option ℕ) (r : Reading) (close : Bool) (store : OpenStore) where
   -- the store is that before the turn, or an item was taken, and an answer that says nothing of damage leads to it
-  abbrev pub LeftBy : Type 0
-  LeftBy = (next ≡ store) ⊎ ((item : Item) × (text : List ℕ) × TookItem r item × IsReplyAt told false close store item text next)
+  abbrev pub LeftBy : OpenStore → Type 0
+  LeftBy next = (next ≡ store) ⊎ ((item : Item) × (text : List ℕ) × TookItem r item × IsReplyAt told false close store item text next)
 
-  by_damage : (damaged : Bool) (item : Item) (text : List ℕ) → TookItem r item → IsReplyAt told damaged close store item text next → LeftBy
+  -- where the disks failed, it is so of the store where they don't
+  pub leaves_failing : (item : Item) (seen : OpenStore) → TookItem r item → (failure : FailsAt told store item seen) → LeftBy failure.final
+  leaves_failing item seen took failure = split failure.either where
+    split : IsChangeAt told store item failure.final ⊎ (ReadsBytes item × (failure.final ≡ store)) → LeftBy failure.final
+    split (inl (hour, is, changes)) = let (text, answers) = change_replies (item_command hour store item) store failure.final close changes in inr (item, text, took, (hour, is, answers))
+    split (inr (reads, same)) = inl same
+
+module _ (told : Option ℕ) (r : Reading) (close : Bool) (sink : Effect Bytes) (store next : OpenStore) where
+  by_damage : (damaged : Bool) (item : Item) (text : List ℕ) → TookItem r item → IsReplyAt told damaged close store item text next → LeftBy told r close store next
   by_damage true item text took (hour, is, answers) = inl (keeps_damaged (item_command hour store item) store next (none_by_item hour store item) close text answers)
   by_damage false item text took answers = inr (item, text, took, answers)
 
-  pub leaves : (turn : Turn) → TurnAs told r close sink store next turn → LeftBy
-  leaves Answered (text, (item, took, answers), wrote) = inr (item, text, took, answers)
-  leaves (Over Closed) (none, end, kept, same) = inl same
-  leaves (Over (Unread at)) (is_unread, is, wrote, same) = inl same
-  leaves (Over (Cut at)) (is_cut, is, kept, same) = inl same
-  leaves (Over (Spent at)) h = absurd h
-  leaves (Over ReadFailed) (lost, kept, same) = inl same
-  leaves (Over WriteFailed) (inl (damaged, text, (item, took, answers), wrote)) = by_damage damaged item text took answers
-  leaves (Over WriteFailed) (inr (is_unread, wrote, same)) = inl same
-  leaves (Over DiskFailed) (item, took, (hour, is, changes), wrote) = let (text, answers) = change_replies (item_command hour store item) store next close changes in inr (item, text, took, (hour, is, answers))
-  leaves (Over Damaged) (text, (item, took, answers), wrote) = by_damage true item text took answers
-  leaves (Over NoMemory) (kept, inl same) = inl same
-  leaves (Over NoMemory) (kept, inr (text, (item, took, answers))) = inr (item, text, took, answers)
+  -- of a turn in which the disks didn't fail
+  pub leaves : (turn : Turn) → turn ≢ Over DiskFailed → TurnAs told r close sink store next turn → LeftBy told r close store next
+  leaves Answered fine (text, (item, took, answers), wrote) = inr (item, text, took, answers)
+  leaves (Over Closed) fine (none, end, kept, same) = inl same
+  leaves (Over (Unread at)) fine (is_unread, is, wrote, same) = inl same
+  leaves (Over (Cut at)) fine (is_cut, is, kept, same) = inl same
+  leaves (Over (Spent at)) fine h = absurd h
+  leaves (Over ReadFailed) fine (lost, kept, same) = inl same
+  leaves (Over WriteFailed) fine (inl (damaged, text, (item, took, answers), wrote)) = by_damage damaged item text took answers
+  leaves (Over WriteFailed) fine (inr (is_unread, wrote, same)) = inl same
+  leaves (Over DiskFailed) fine h = absurd (fine refl)
+  leaves (Over Damaged) fine (text, (item, took, answers), wrote) = by_damage true item text took answers
+  leaves (Over NoMemory) fine (kept, inl same) = inl same
+  leaves (Over NoMemory) fine (kept, inr (text, (item, took, answers))) = inr (item, text, took, answers)

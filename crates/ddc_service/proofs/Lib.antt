@@ -1,8 +1,11 @@
 pub mod Writing
+pub mod Becoming
 pub mod Answering
 pub mod Turning
 pub mod Bounds
 pub mod Runs
 pub mod Changing
+pub mod Soundness
+pub mod Held
 pub mod Crashes
 pub mod Opened

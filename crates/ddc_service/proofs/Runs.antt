@@ -10,8 +10,8 @@ use Rattle.ddc_service.specs.declared.session.SessionEnd.TheVariants.{Closed, Un
 use Rattle.ddc_service.specs.declared.session.Turn.TheVariants.{Over}
 use Rattle.ddc_service.specs.declared.session.Turn.TheVariants as turns
 use Rattle.ddc_service.specs.Effects.{Effect, Bytes}
-use Rattle.ddc_service.specs.Replies.{OpenStore, IsReplyAt, IsChangeAt, closes, Runs, last_text, failed_reply}
-use Rattle.ddc_service.specs.Session.{Session, HasCut, AllReplies, StartsAs, AnsweredFront, OneMore, OneChange, IsSession}
+use Rattle.ddc_service.specs.Replies.{OpenStore, IsReplyAt, FailsAt, closes, Runs, last_text, failed_reply}
+use Rattle.ddc_service.specs.Session.{Session, HasCut, AllReplies, StartsAs, AnsweredFront, OneMore, OneFailure, IsSession}
 use Rattle.ddc_service.specs.inside.Turns.{Reading, TookItem, TurnAs}
 use Rattle.ddc_service.proofs.Writing.{front_after}
 use Rattle.ddc_service.proofs.Turning.{appends_none}
@@ -121,7 +121,7 @@ module _ (s : Session) (here : Ahead) (held : List ℕ) (mid : Bytes) (faults : 
   few_so_far = let counted = far.counted in omega arith
 
   module _ (item : Item) (took : TookItem (turn_reading s here held from to) item) where
-    begun : Begins (far.front ++ took.0) (far.items ++ item ∷ []) []
+    pub begun : Begins (far.front ++ took.0) (far.items ++ item ∷ []) []
     begun = begins_snoc far.items item (far.front ++ took.0) took.0 [] (subst (λ (r : List ℕ). Begins (far.front ++ took.0) far.items r) (sym (append-nil took.0)) (begins_more far.items far.front [] took.0 far.begins)) took.1
 
     pub one_begins : StartsAs s.source.before (far.items ++ item ∷ [])
@@ -139,14 +139,14 @@ module _ (s : Session) (here : Ahead) (held : List ℕ) (mid : Bytes) (faults : 
     }
 
     -- an answer that says nothing of damage makes the items one more
-    pub then_answered : (more : List ℕ) → IsReplyAt s.hour false close at item more s.store.after → AnsweredFront s.hour s.source.before s.store.before (far.items ++ item ∷ []) (far.text ++ more) s.store.after
-    then_answered more answers =
+    pub then_answered : (next : OpenStore) (more : List ℕ) → IsReplyAt s.hour false close at item more next → AnsweredFront s.hour s.source.before s.store.before (far.items ++ item ∷ []) (far.text ++ more) next
+    then_answered next more answers =
         let counted = far.counted in
         let long = length-append far.items (item ∷ []) in
-        record { begins = one_begins; few = omega arith; runs = runs_more s.hour far.items item far.text more s.store.before at s.store.after close count last far.counted far.runs answers }
+        record { begins = one_begins; few = omega arith; runs = runs_more s.hour far.items item far.text more s.store.before at next close count last far.counted far.runs answers }
 
-    abbrev pub one_change : IsChangeAt s.hour at item s.store.after → OneChange s.hour s.source.before s.store.before s.store.after far.text
-    one_change changes = record { items = far.items; between = at; answered = so_far_answered; few = few_so_far; item = item; begins = one_begins; changes = changes }
+    abbrev pub one_failure : FailsAt s.hour at item s.store.after → OneFailure s.hour s.source.before s.store.before s.store.after far.text
+    one_failure failure = record { items = far.items; between = at; answered = so_far_answered; few = few_so_far; item = item; begins = one_begins; failure = failure }
 
   stays : s.store.after ≡ at → Runs s.hour 0 s.store.before far.items far.text s.store.after
   stays same = subst (λ (store : OpenStore). Runs s.hour 0 s.store.before far.items far.text store) (sym same) far.runs
@@ -215,7 +215,7 @@ module _ (s : Session) (here : Ahead) (held : List ℕ) (mid : Bytes) (faults : 
     stays same,
     front_after s.sink.before mid s.sink.after far.text unread_reply far.wrote wrote,
   )
-  ends DiskFailed (item, took, changes, wrote) = (far.text, one_change item took changes, front_after s.sink.before mid s.sink.after far.text failed_reply far.wrote wrote)
+  ends DiskFailed (item, took, failure, wrote) = (far.text, one_failure item took failure, front_after s.sink.before mid s.sink.after far.text failed_reply far.wrote wrote)
   ends Damaged (more, (item, took, answers), wrote) = (far.text, more, one_more item took true more answers, front_after s.sink.before mid s.sink.after far.text more far.wrote wrote)
   ends NoMemory (kept, inl same) = (
     far.text,

@@ -1,6 +1,8 @@
 -- What one turn does, by what its parts do.
-use Rattle.std.proofs.Common.{◌≡◌, ℕ, List, [], Bool, false, Option, Some, None, Result, Ok, Err, refl, sym, subst, append-nil, inl, inr, ◌∙◌, arith}
+use Rattle.std.proofs.Common.{◌≡◌, ◌⊎◌, ℕ, List, [], Bool, false, Option, Some, None, Result, Ok, Err, refl, sym, subst, append-nil, inl, inr, ◌∙◌, arith}
 use Rattle.std.specs.Io.KnownBytes.{Appends}
+use Rattle.ddc_disk.specs.Disk.{Meaning}
+use Rattle.ddc_book.specs.View.{BookView}
 use Rattle.ddc_protocol.specs.Requests.{Item}
 use Rattle.ddc_http.specs.declared.reply.WriteFault.{WriteFault}
 use Rattle.ddc_http.specs.declared.reply.WriteFault.TheVariants.{Failed}
@@ -10,11 +12,19 @@ use Rattle.ddc_service.specs.declared.session.SessionEnd.TheVariants.{Closed, Un
 use Rattle.ddc_service.specs.declared.session.Turn.{Turn}
 use Rattle.ddc_service.specs.declared.session.Turn.TheVariants.{Answered, Over}
 use Rattle.ddc_service.specs.Effects.{Effect, Bytes, effect, Rises, MeetsNoFault}
-use Rattle.ddc_service.specs.Replies.{OpenStore, IsReply, IsHour}
-use Rattle.ddc_service.specs.Session.{Session, session, StartsAs, FirstReplies, CountsAs}
-use Rattle.ddc_service.specs.inside.Writes.{WritesAs, RequestEnds, SinkCounts, written_turn}
-use Rattle.ddc_service.specs.inside.Turns.{Reading, TookItem, TurnAs, TurnCounts}
+use Rattle.ddc_service.specs.Replies.{OpenStore, IsReply, IsHour, IsChangeAt, FailsAt, ReadsBytes}
+use Rattle.ddc_service.specs.Session.{Session, session, store_of, StartsAs, FirstReplies, CountsAs}
+use Rattle.ddc_service.specs.inside.Writes.{WritesAs, RequestEnds, RequestGoes, SinkCounts, written_turn}
+use Rattle.ddc_service.specs.inside.Turns.{Reading, TookItem, TurnAs, TurnCounts, TurnGoes}
 use Rattle.ddc_service.proofs.Writing.{rose_later}
+
+-- a failure at an hour that the clock told
+change_told : (told : Option ℕ) (store : OpenStore) (item : Item) (final : OpenStore) (hour : ℕ) → IsHour told hour → IsChangeAt (Some hour) store item final ⊎ (ReadsBytes item × (final ≡ store)) → IsChangeAt told store item final ⊎ (ReadsBytes item × (final ≡ store))
+change_told told store item final hour is (inl (at, same, changes)) = inl (at, subst (IsHour told) (sym same) is, changes)
+change_told told store item final hour is (inr read) = inr read
+
+abbrev fails_told : (told : Option ℕ) (store : OpenStore) (item : Item) (seen : OpenStore) (hour : ℕ) → IsHour told hour → FailsAt (Some hour) store item seen → FailsAt told store item seen
+fails_told told store item seen hour is failure = record { final = failure.final; either = change_told told store item failure.final hour is failure.either; seen_as = failure.seen_as }
 
 module _ (told : Option ℕ) (r : Reading) (close : Bool) (sink : Effect Bytes) (store next : OpenStore) (item : Item) (took : TookItem r item) where
   -- a request that was read, and answered at this hour
@@ -26,10 +36,31 @@ module _ (told : Option ℕ) (r : Reading) (close : Bool) (sink : Effect Bytes) 
   turn_answered hour (Over (Spent at)) is h = absurd h
   turn_answered hour (Over ReadFailed) is h = absurd h
   turn_answered hour (Over WriteFailed) is (damaged, text, answers, wrote) = inl (damaged, text, (item, took, (hour, is, answers)), wrote)
-  turn_answered hour (Over DiskFailed) is (changes, wrote) = (item, took, (hour, is, changes), wrote)
+  turn_answered hour (Over DiskFailed) is (failure, wrote) = (item, took, fails_told told store item next hour is failure, wrote)
   turn_answered hour (Over Damaged) is (text, answers, wrote) = (text, (item, took, (hour, is, answers)), wrote)
   turn_answered hour (Over NoMemory) is (kept, inl same) = (kept, inl same)
   turn_answered hour (Over NoMemory) is (kept, inr (text, answers)) = (kept, inr (text, (item, took, (hour, is, answers))))
+
+-- how the devices go on in a turn
+module _ {D : Type 0} (tells : Bool) (meaning : D → Meaning) (told : Option ℕ) (r : Reading) (book next : BookView D) where
+  -- in which a request was answered at this hour
+  pub turn_goes : (item : Item) → TookItem r item → (hour : ℕ) → IsHour told hour → (turn : Turn) → RequestGoes tells meaning hour item book next turn → TurnGoes tells meaning told r book next turn
+  turn_goes item took hour is Answered goes = inr goes
+  turn_goes item took hour is (Over Closed) goes = inr goes
+  turn_goes item took hour is (Over (Unread at)) goes = inr goes
+  turn_goes item took hour is (Over (Cut at)) goes = inr goes
+  turn_goes item took hour is (Over (Spent at)) goes = inr goes
+  turn_goes item took hour is (Over ReadFailed) goes = inr goes
+  turn_goes item took hour is (Over WriteFailed) goes = inr goes
+  turn_goes item took hour is (Over DiskFailed) (failure, goes) = (item, took, fails_told told (store_of book) item (store_of next) hour is failure, goes)
+  turn_goes item took hour is (Over Damaged) goes = inr goes
+  turn_goes item took hour is (Over NoMemory) goes = inr goes
+
+  -- in which a faulty request was answered
+  pub refused_goes : (written : Result (Unit {0}) WriteFault) → next ≡ book → TurnGoes tells meaning told r book next (written_turn written)
+  refused_goes (Ok u) same = inl same
+  refused_goes (Err Failed) same = inl same
+  refused_goes (Err write_faults.NoMemory) same = inl same
 
 -- an hour that a clock tells, where it tells one
 abbrev an_hour : Option ℕ → ℕ

@@ -1,5 +1,5 @@
 -- What each request is answered, and what it leaves.
-use Rattle.std.specs.Prelude.{◌≡◌, ℕ, ◌+◌, Bool, true, false, List, [], ◌∷◌, ◌++◌, Option, Some, None, Result, Ok, Err, IfSome, ◌==◌}
+use Rattle.std.specs.Prelude.{◌≡◌, ◌⊎◌, ℕ, ◌+◌, Bool, true, false, List, [], ◌∷◌, ◌++◌, Option, Some, None, Result, Ok, Err, IfSome, ◌==◌}
 use Rattle.ddc_names.specs.declared.hash.IoHash.{IoHash}
 use Rattle.ddc_model.specs.declared.entry.Entry.{Entry}
 use Rattle.ddc_model.specs.declared.fault.StoreFault.{StoreFault}
@@ -8,9 +8,10 @@ use Rattle.ddc_model.specs.Content.{content_hash}
 use Rattle.ddc_model.specs.Sound.{Cache}
 use Rattle.ddc_model.specs.Commands.{UploadAs, PutAs, FinaliseAs, changed}
 use Rattle.ddc_model.specs.History.{Past, none_yet, one_entry_more, WithRoom}
-use Rattle.ddc_model.specs.Reads.{serve, HeldAs}
+use Rattle.ddc_model.specs.Reads.{ServesAs, HeldAs}
+use Rattle.ddc_book.specs.Calls.{Only}
 use Rattle.ddc_protocol.specs.Replies.{json_reply, blob_reply, object_reply, identifier_body, needs_body, fault_reply, mismatch_body, not_object_body, unread_reply}
-use Rattle.ddc_protocol.specs.Requests.{Item, put_blob, get_blob, put_ref, get_ref, finalise, mismatch, not_object, End, closed, cut, unread, spent, most_items}
+use Rattle.ddc_protocol.specs.Requests.{Item, put_blob, get_blob, put_ref, get_ref, finalise, mismatch, not_object, End, unread, most_items}
 
 -- a store that is open: its state with the bytes of its blobs, and how much was made since the opening
 pub record OpenStore : Type 0 where
@@ -76,20 +77,20 @@ pub record ItemCommand : Type 1 where
 abbrev pub as_command : {A : Type 0} → List ℕ → (Result A StoreFault → Option Entry → Type 0) → (Bool → Result A StoreFault → List ℕ) → ItemCommand
 as_command {A} bytes Command reply = record { Value = A; bytes = bytes; Command = Command; reply = reply }
 
--- one answer is given, and nothing is made
-abbrev pub OnlyAnswers : {A : Type 0} → Result A StoreFault → Result A StoreFault → Option Entry → Type 0
-OnlyAnswers known answer made = (answer ≡ known) × (made ≡ None)
+-- nothing was asked of the store
+abbrev pub IsFine : Result (Unit {0}) StoreFault → Type 0
+IsFine answer = answer ≡ Ok tt
 
 -- at this hour
 abbrev pub item_command : ℕ → OpenStore → Item → ItemCommand
 item_command hour store (put_blob space content) =
     as_command content.bytes (WithRoom store.cache.index store.past (UploadAs store.cache.index space content hour)) (upload_reply (content_hash content.bytes))
-item_command hour store (get_blob space hash) = as_command [] (OnlyAnswers (serve store.cache space hash)) (fetch_reply hash)
+item_command hour store (get_blob space hash) = as_command [] (Only (ServesAs store.cache space hash)) (fetch_reply hash)
 item_command hour store (put_ref name content) = as_command content.bytes (WithRoom store.cache.index store.past (PutAs store.cache.index name content hour)) needs_reply
 item_command hour store (get_ref name) = as_command [] (HeldAs store.cache store.past name hour) get_reply
 item_command hour store (finalise name hash) = as_command [] (WithRoom store.cache.index store.past (FinaliseAs store.cache.index name hash hour)) needs_reply
-item_command hour store (mismatch expected found) = as_command {A = Unit {0}} [] (OnlyAnswers (Ok tt)) (λ close answer. json_reply 400 (mismatch_body expected found) close)
-item_command hour store (not_object at) = as_command {A = Unit {0}} [] (OnlyAnswers (Ok tt)) (λ close answer. json_reply 400 (not_object_body at) close)
+item_command hour store (mismatch expected found) = as_command [] (Only IsFine) (λ close answer. json_reply 400 (mismatch_body expected found) close)
+item_command hour store (not_object at) = as_command [] (Only IsFine) (λ close answer. json_reply 400 (not_object_body at) close)
 
 -- a command answers, and the text and the store after it follow; whether the answer says that a blob is damaged
 abbrev pub IsReplyBy : ItemCommand → Bool → Bool → OpenStore → List ℕ → OpenStore → Type 0
@@ -117,6 +118,28 @@ IsReplyAt told damaged close store item text next = (hour : ℕ) × IsHour told 
 
 abbrev pub IsChangeAt : Option ℕ → OpenStore → Item → OpenStore → Type 0
 IsChangeAt told store item next = (hour : ℕ) × IsHour told hour × IsChange hour store item next
+
+-- ---- an item at which the disks failed
+
+-- the bytes of a blob are read for it
+abbrev pub ReadsBytes : Item → Type 0
+ReadsBytes (get_blob space hash) = Unit {0}
+ReadsBytes (get_ref name) = Unit {0}
+ReadsBytes other = ⊥
+
+-- a store that has the index and the past of this one is seen in its place; which bytes its blobs have is open
+pub record SeenAs (store seen : OpenStore) : Type 0 where
+  pub index : seen.cache.index ≡ store.cache.index
+  pub past : seen.past ≡ store.past
+
+-- the disks failed as the item's change was written, or as bytes were read for it, which changes nothing; `final` is the store
+-- where they don't fail, and `seen` the one that is seen
+pub record FailsAt (told : Option ℕ) (store : OpenStore) (item : Item) (seen : OpenStore) : Type 0 where
+  pub final : OpenStore
+  pub either : IsChangeAt told store item final ⊎ (ReadsBytes item × (final ≡ store))
+  pub seen_as : SeenAs final seen
+
+-- ---- streams
 
 -- the server closes with the last item of a stream that it answers
 abbrev pub closes : ℕ → Bool

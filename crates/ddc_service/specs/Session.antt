@@ -1,19 +1,20 @@
 -- What a session writes and leaves, by what it reads.
-use Rattle.std.specs.Prelude.{◌≡◌, ◌⊎◌, ℕ, ◌≤◌, ◌<◌, Bool, true, false, List, [], ◌∷◌, ◌++◌, length, Option, IfSome}
+use Rattle.std.specs.Prelude.{◌⊎◌, ℕ, ◌≤◌, ◌<◌, Bool, true, false, IsTrue, List, [], ◌∷◌, ◌++◌, length, Option, IfSome}
 use Rattle.std.specs.Io.KnownBytes.{Appends, Consumes, IsAtEnd}
 use Rattle.ddc_link.specs.Writes.{AppendsFront}
-use Rattle.ddc_disk.specs.Disk.{Timeline, EachImage}
+use Rattle.ddc_disk.specs.Disk.{Meaning, Timeline, EachImage}
 use Rattle.ddc_disk.specs.Images.{Images}
 use Rattle.ddc_model.specs.declared.rows.Limits.{Limits}
+use Rattle.ddc_model.specs.Sound.{IsSound}
 use Rattle.ddc_model.specs.History.{past_of}
-use Rattle.ddc_opening.specs.Opening.{OpensAs}
-use Rattle.ddc_book.specs.View.{BookView}
+use Rattle.ddc_book.specs.Calls.{OpensWhole}
+use Rattle.ddc_book.specs.View.{BookView, limits_of, book_line}
 use Rattle.ddc_protocol.specs.Requests.{Item, Begins, Cuts, HasNoRequestText, End, closed, cut, unread, spent, most_items}
 use Rattle.ddc_protocol.specs.Replies.{unread_reply}
 use Rattle.ddc_service.specs.declared.session.SessionEnd.{SessionEnd}
 use Rattle.ddc_service.specs.declared.session.SessionEnd.TheVariants.{Closed, Unread, Cut, Spent, ReadFailed, WriteFailed, DiskFailed, Damaged, NoMemory}
 use Rattle.ddc_service.specs.Effects.{Effect, Bytes, Rises, MeetsNoFault}
-use Rattle.ddc_service.specs.Replies.{OpenStore, IsReplyAt, IsChangeAt, closes, Runs, last_text, failed_reply}
+use Rattle.ddc_service.specs.Replies.{OpenStore, IsReplyAt, FailsAt, closes, Runs, last_text, failed_reply}
 
 -- a book as a stream sees it
 abbrev pub store_of : {D : Type 0} → BookView D → OpenStore
@@ -53,15 +54,15 @@ pub record OneMore (told : Option ℕ) (input : Bytes) (start final : OpenStore)
   pub begins : StartsAs input (items ++ item ∷ [])
   pub answers : IsReplyAt told damaged (closes (length items)) between item more final
 
--- the change of one item more
-pub record OneChange (told : Option ℕ) (input : Bytes) (start final : OpenStore) (text : List ℕ) : Type 0 where
+-- the disks failed at one item more
+pub record OneFailure (told : Option ℕ) (input : Bytes) (start seen : OpenStore) (text : List ℕ) : Type 0 where
   pub items : List Item
   pub between : OpenStore
   pub answered : AnsweredFront told input start items text between
   pub few : length items < most_items
   pub item : Item
   pub begins : StartsAs input (items ++ item ∷ [])
-  pub changes : IsChangeAt told between item final
+  pub failure : FailsAt told between item seen
 
 -- the replies to all of the items before the end, and what is written at the end
 abbrev pub AllReplies : Session → ℕ → End → Type 0
@@ -94,7 +95,7 @@ IsSession s (Cut at) = AllReplies s at cut
 IsSession s (Spent at) = AllReplies s at spent
 IsSession s ReadFailed = RepliesToRead s
 IsSession s WriteFailed = FrontOfReplies s
-IsSession s DiskFailed = (text : List ℕ) × OneChange s.hour s.source.before s.store.before s.store.after text × AppendsFront s.sink.before s.sink.after (text ++ failed_reply)
+IsSession s DiskFailed = (text : List ℕ) × OneFailure s.hour s.source.before s.store.before s.store.after text × AppendsFront s.sink.before s.sink.after (text ++ failed_reply)
 IsSession s Damaged = (text : List ℕ) × (more : List ℕ) × OneMore s.hour s.source.before s.store.before s.store.after true text more × AppendsFront s.sink.before s.sink.after (text ++ more)
 IsSession s NoMemory = FirstReplies s
 
@@ -110,16 +111,22 @@ CountsAs s other = MeetsNoFault s.source × MeetsNoFault s.sink
 
 -- ---- what a crash leaves
 
--- the devices open to the store after the first items of the input, bytes included
+-- the devices tell what they hold, and each image now opens to the state of the book, with each blob to its end
+abbrev pub OpensNow : {D : Type 0} → Bool → (D → Meaning) → BookView D → Type 0
+OpensNow tells meaning book = IsTrue tells × EachImage (book_line meaning book) (λ im. OpensWhole (limits_of book) im book.cache)
+
+-- an image opens to the store after the first items of the input, bytes included; what is sound stays sound
 pub record OpensWithin (told : Option ℕ) (input : Bytes) (start : OpenStore) (limits : Limits) (im : Images) : Type 0 where
   pub items : List Item
   pub text : List ℕ
   pub state : OpenStore
   pub answered : AnsweredFront told input start items text state
-  pub opens : OpensAs limits im state.cache
+  pub opens : OpensWhole limits im state.cache
+  pub sound : IsSound start.cache → IsSound state.cache
 
--- where the disks failed, a crash after the session leaves the store without the last change or with it
+-- where the disks failed, an image after the session opens to the store before the last item or to the one after it
 abbrev pub Stops : Session → Timeline Images → Limits → SessionEnd → Type 0
 Stops s line limits DiskFailed =
-    (text : List ℕ) × (change : OneChange s.hour s.source.before s.store.before s.store.after text) × EachImage line (λ im. OpensAs limits im change.between.cache ⊎ OpensAs limits im s.store.after.cache)
+    (text : List ℕ) × (one : OneFailure s.hour s.source.before s.store.before s.store.after text)
+    × EachImage line (λ im. OpensWhole limits im one.between.cache ⊎ OpensWhole limits im one.failure.final.cache)
 Stops s line limits other = Unit {0}

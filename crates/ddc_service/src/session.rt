@@ -1,14 +1,12 @@
 // One stream of requests.
-ghost use Rattle.std.specs.Prelude.{◌≡◌, ◌≢◌, ◌⊎◌, ◌≤◌, false, [], None, IsTrue};
-ghost use Rattle.ddc_disk.specs.Disk.{EachImage, EachSince};
+ghost use Rattle.std.specs.Prelude.{◌≡◌, ◌≢◌, ◌≤◌, false, [], None};
+ghost use Rattle.ddc_disk.specs.Disk.{EachSince};
 ghost use Rattle.ddc_model.specs.History.{broken_by};
-ghost use Rattle.ddc_book.specs.Calls.{GoesOn};
-ghost use Rattle.ddc_opening.specs.Opening.{OpensAs};
 ghost use Rattle.ddc_book.specs.View.{book_faults, limits_of, book_line};
 ghost use Rattle.ddc_http.specs.Stream.{source_of, held_of, place_of, has_ended};
 ghost use Rattle.ddc_service.specs.Effects.{effect, Rises};
-ghost use Rattle.ddc_service.specs.Session.{store_of, session, OpensWithin, IsSession, CountsAs, Stops};
-ghost use Rattle.ddc_service.specs.inside.Turns.{TurnAs, TurnCounts, reading};
+ghost use Rattle.ddc_service.specs.Session.{store_of, session, OpensNow, OpensWithin, IsSession, CountsAs, Stops};
+ghost use Rattle.ddc_service.specs.inside.Turns.{TurnAs, TurnCounts, TurnGoes, reading};
 
 use crate::reply::{answer_fault, answer_request, written_turn};
 use ddc_book::Book;
@@ -64,7 +62,8 @@ fn take_turn<D: Disk, S: Source, W: Sink, C: Clock>(
     ensures same_reference { reader.new.source.ghost_name ≡ reader.old.source.ghost_name }
     ensures gives { TurnAs (C.tells clock.now) (reading S.left reader.old reader.new) close (effect W.written W.faults sink.old sink.new) (store_of book.old) (store_of book.new) result }
     ensures goes_on { result ≡ Turn.Answered → has_ended reader.new ≡ false }
-    ensures devices { (book.new ≡ book.old) ⊎ GoesOn D.tells D.meaning book.old book.new }
+    ensures devices { TurnGoes D.tells D.meaning (C.tells clock.now) (reading S.left reader.old reader.new) book.old book.new result }
+    ensures later_disk { book_faults D.meaning book.old ≤ book_faults D.meaning book.new }
     ensures limits { limits_of book.new ≡ limits_of book.old }
     ensures unbroken { result ≢ Turn.Over SessionEnd.DiskFailed → broken_by book.new.steps ≡ None }
     ensures counts { TurnCounts (effect S.left S.faults (source_of reader.old) (source_of reader.new)) (effect W.written W.faults sink.old sink.new) result }
@@ -106,9 +105,9 @@ fn serve_requests<D: Disk, S: Source, W: Sink, C: Clock>(
     requires unbroken { broken_by book.old.steps ≡ None }
     ensures same_reference { reader.new.source.ghost_name ≡ reader.old.source.ghost_name }
     ensures gives { IsSession (session (C.tells clock.now) (effect S.left S.faults (source_of reader.old) (source_of reader.new)) (effect W.written W.faults sink.old sink.new) (effect store_of (book_faults D.meaning) book.old book.new)) result }
-    ensures any_moment { IsTrue D.tells → EachImage (book_line D.meaning book.old) (λ im. OpensAs (limits_of book.old) im book.old.cache)
+    ensures any_moment { OpensNow D.tells D.meaning book.old
         → EachSince (book_line D.meaning book.old) (book_line D.meaning book.new) (OpensWithin (C.tells clock.now) (S.left (source_of reader.old)) (store_of book.old) (limits_of book.old)) }
-    ensures stops { IsTrue D.tells → Stops (session (C.tells clock.now) (effect S.left S.faults (source_of reader.old) (source_of reader.new)) (effect W.written W.faults sink.old sink.new) (effect store_of (book_faults D.meaning) book.old book.new)) (book_line D.meaning book.new) (limits_of book.old) result }
+    ensures stops { OpensNow D.tells D.meaning book.old → Stops (session (C.tells clock.now) (effect S.left S.faults (source_of reader.old) (source_of reader.new)) (effect W.written W.faults sink.old sink.new) (effect store_of (book_faults D.meaning) book.old book.new)) (book_line D.meaning book.new) (limits_of book.old) result }
     ensures limits { limits_of book.new ≡ limits_of book.old }
     ensures unbroken { result ≢ SessionEnd.DiskFailed → broken_by book.new.steps ≡ None }
     ensures later_disk { book_faults D.meaning book.old ≤ book_faults D.meaning book.new }
@@ -133,9 +132,9 @@ pub fn replay_session<D: Disk, S: Source, W: Sink, C: Clock>(
 ) -> SessionEnd
     requires { broken_by book.old.steps ≡ None }
     ensures gives { IsSession (session (C.tells clock.now) (effect S.left S.faults source.old source.new) (effect W.written W.faults sink.old sink.new) (effect store_of (book_faults D.meaning) book.old book.new)) result }
-    ensures any_moment { IsTrue D.tells → EachImage (book_line D.meaning book.old) (λ im. OpensAs (limits_of book.old) im book.old.cache)
+    ensures any_moment { OpensNow D.tells D.meaning book.old
         → EachSince (book_line D.meaning book.old) (book_line D.meaning book.new) (OpensWithin (C.tells clock.now) (S.left source.old) (store_of book.old) (limits_of book.old)) }
-    ensures stops { IsTrue D.tells → Stops (session (C.tells clock.now) (effect S.left S.faults source.old source.new) (effect W.written W.faults sink.old sink.new) (effect store_of (book_faults D.meaning) book.old book.new)) (book_line D.meaning book.new) (limits_of book.old) result }
+    ensures stops { OpensNow D.tells D.meaning book.old → Stops (session (C.tells clock.now) (effect S.left S.faults source.old source.new) (effect W.written W.faults sink.old sink.new) (effect store_of (book_faults D.meaning) book.old book.new)) (book_line D.meaning book.new) (limits_of book.old) result }
     ensures limits { limits_of book.new ≡ limits_of book.old }
     ensures unbroken { result ≢ SessionEnd.DiskFailed → broken_by book.new.steps ≡ None }
     ensures later_disk { book_faults D.meaning book.old ≤ book_faults D.meaning book.new }

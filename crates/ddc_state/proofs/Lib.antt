@@ -2,3 +2,8 @@ pub mod Given
 pub mod Nesting
 pub mod Counting
 pub mod Undo
+pub mod NextBlobs
+pub mod FreeUnits
+pub mod Claims
+pub mod Claiming
+pub mod Adding

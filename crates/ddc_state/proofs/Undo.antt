@@ -11,12 +11,12 @@ use Rattle.ddc_model.specs.Entries.{is_root, with_blob, blob_of}
 use Rattle.ddc_state.specs.Views.{IndexView, in_state, without_blob}
 use Rattle.ddc_state.proofs.Given.{put_undone}
 
-absent : (o : Option Blob) (same short few : Bool) → (same && (not (is_some o) && short && few)) ≡ true → o ≡ None
-absent None same short few h = refl
-absent (Some blob) true short few h = absurd (cc)
-absent (Some blob) false short few h = absurd (cc)
+absent : (o : Option Blob) (same short few free : Bool) → (same && (not (is_some o) && short && few && free)) ≡ true → o ≡ None
+absent None same short few free h = refl
+absent (Some blob) true short few free h = absurd (cc)
+absent (Some blob) false short few free h = absurd (cc)
 
 pub add_undone : (index : IndexView) (space : List ℕ) (root : IoHash) (blob : Stored) (hour : ℕ) → is_root index.state space root (Some blob) ≡ true
     → in_state index (without_blob (with_blob index.state space blob hour) space blob.hash) ≡ index
 add_undone index space root blob hour fits = ap (λ (blobs : FinMap blob_cmp Blob). in_state index (record index.state { blobs = blobs }))
-    (put_undone blob_cmp blob_total blob_exact index.state.blobs (blob_name space blob.hash) (blob_of blob hour) (absent (blob_at index.state space blob.hash) _ _ _ fits))
+    (put_undone blob_cmp blob_total blob_exact index.state.blobs (blob_name space blob.hash) (blob_of blob hour) (absent (blob_at index.state space blob.hash) _ _ _ _ fits))

@@ -1,14 +1,15 @@
 //! The table of blobs.
 
-ghost use Rattle.std.specs.Prelude.{◌≡◌, OnOk, OnErr, None, is_some, option_copied};
+ghost use Rattle.std.specs.Prelude.{◌≡◌, OnOk, OnErr, None, is_some, option_copied, option_map};
 ghost use Rattle.std.specs.FinMap as map;
 ghost use Rattle.ddc_model.specs.Entries.{pinned};
 ghost use Rattle.ddc_model.specs.Counts.{links_of_all};
+ghost use Rattle.ddc_state.specs.NextBlobs.{NextBlob};
 
 use crate::blob_map::BlobMap;
 use crate::packed::PackedBlob;
-use ddc_model::{Blob, BlobName};
-use ddc_names::NoMemory;
+use ddc_model::{Blob, BlobName, BlobRow};
+use ddc_names::{IoHash, Namespace, NoMemory};
 use std::alloc::Global;
 use std::marker::Model;
 
@@ -57,6 +58,12 @@ impl BlobTable {
         self.blobs.has(name)
     }
 
+    pub(crate) fn next(&self, space: &Namespace, after: Option<IoHash>) -> Option<IoHash>
+        ensures { NextBlob self.now space.now after result }
+    {
+        self.blobs.next(space, after)
+    }
+
     // Adds a blob that isn't there.
     pub(crate) fn add(&mut self, name: &BlobName, blob: Blob) -> Result<(), NoMemory>
         requires { map.get self.old name.now ≡ None }
@@ -80,11 +87,17 @@ impl BlobTable {
         }
     }
 
-    pub(crate) fn remove(&mut self, name: &BlobName)
-        ensures { self.new ≡ map.remove self.old name.now }
+    // Takes a blob out, and gives what was kept of it beside its links.
+    pub(crate) fn remove(&mut self, name: &BlobName) -> Option<BlobRow>
+        ensures row { result ≡ option_map (λ blob. blob.row) (map.get self.old name.now) }
+        ensures gone { self.new ≡ map.remove self.old name.now }
     {
-        if let Some(blob) = self.blobs.remove(name) {
-            self.links -= blob.links().len() as u64;
+        match self.blobs.remove(name) {
+            Some(blob) => {
+                self.links -= blob.links().len() as u64;
+                Some(blob.row())
+            }
+            None => None,
         }
     }
 

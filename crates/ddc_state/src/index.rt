@@ -4,9 +4,12 @@ ghost use Rattle.std.specs.Prelude.{◌≡◌, ◌+◌, ◌-◌, ◌^◌, ◌≤
 ghost use Rattle.std.specs.Option.{unwrap_or};
 ghost use Rattle.std.specs.FinMap as map;
 ghost use Rattle.ddc_model.specs.State.{blob_at, empty_state};
+ghost use Rattle.ddc_model.specs.Extents.{IsPlaced, free_run, units_of};
 ghost use Rattle.ddc_model.specs.Entries.{after, legal};
 ghost use Rattle.ddc_model.specs.Closure.{links_in};
 ghost use Rattle.ddc_model.specs.Counts.{link_count};
+ghost use Rattle.ddc_model.specs.Limits.{most_bytes};
+ghost use Rattle.ddc_state.specs.NextBlobs.{NextBlob};
 
 mod changes;
 mod legal;
@@ -14,6 +17,7 @@ mod legal;
 use crate::blobs::BlobTable;
 use crate::packed::PackedBlob;
 use crate::spaces::SpaceTable;
+use blob_store::BlobStore;
 use cb_fields::Link;
 use ddc_model::{BlobName, BlobRow, Entry, Limits, SpaceRow};
 use ddc_names::{IoHash, Namespace, NoMemory};
@@ -23,25 +27,30 @@ use std::alloc::Global;
 use std::marker::Model;
 
 /// The namespaces, blobs and references of a store, within its limits, and the greatest hour of a change. Contracts
-/// see the state, and the number of times that links were given out.
+/// see the state, and the number of times that links were given out. The units of the blobs are claimed, so that no
+/// two blobs have one in common.
 #[derive(Drop)]
 pub struct Index {
     limits: Limits,
     hour: u32,
     spaces: SpaceTable,
     blobs: BlobTable,
+    area: BlobStore,
     refs: RefTable,
     reads: u64,
 }
 
 impl Model for Index {
     ghost use Rattle.ddc_state.specs.Views.{IndexView, coded_index};
+    ghost use Rattle.ddc_state.specs.inside.Claimed.{AreClaims};
 
     ghost Value = { IndexView };
 
     ghost coded = { coded_index };
 
     ghost view = { λ index. record { state = record { limits = index.limits; hour = index.hour; spaces = index.spaces; blobs = index.blobs; slots = index.refs }; reads = index.reads } };
+
+    ghost invariant = { λ index. AreClaims index.area index.limits.units index.blobs };
 }
 
 /// One read of links that was counted. It can't be made twice or thrown away, so that no links are given out uncounted.
@@ -62,6 +71,7 @@ impl Index {
             hour: 0,
             spaces: SpaceTable::new(alloc),
             blobs: BlobTable::new(alloc),
+            area: BlobStore::new(alloc, limits.units),
             refs: RefTable::new(alloc),
             reads: 0,
         }
@@ -103,8 +113,8 @@ impl Index {
     ///
     /// # Errors
     ///
-    /// `NoMemory` where there is none for a row that isn't there yet, or where the links of all blobs would be more
-    /// than a `u64` counts. The index is then as before.
+    /// `NoMemory` where there is none for a row that isn't there yet or for the claim of a blob's units, or where the
+    /// links of all blobs would be more than a `u64` counts. The index is then as before.
     pub fn apply(&mut self, alloc: Global, entry: &Entry) -> Result<(), NoMemory>
         requires { legal self.old.state entry.now ≡ true }
         ensures ok { OnOk result (self.new.state ≡ after self.old.state entry.now) }
@@ -157,10 +167,33 @@ impl Index {
 
     /// What is kept of a blob beside its links.
     pub fn blob(&self, space: &Namespace, hash: &IoHash) -> Option<BlobRow>
-        ensures { result ≡ option_map (λ blob. blob.row) (blob_at self.now.state space.now hash.now) }
+        ensures row { result ≡ option_map (λ blob. blob.row) (blob_at self.now.state space.now hash.now) }
+        ensures placed { IsPlaced self.now.state }
+        ensures low { self.now.state.limits.units ≤ 2 ^ 51 }
     {
         match self.found(space, hash) {
             Some(blob) => Some(blob.row()),
+            None => None,
+        }
+    }
+
+    /// The first blob of a namespace after another hash, or the first of all.
+    pub fn next_blob(&self, space: &Namespace, after: Option<IoHash>) -> Option<IoHash>
+        ensures { NextBlob self.now.state.blobs space.now after result }
+    {
+        self.blobs.next(space, after)
+    }
+
+    /// The first unit of the first run of free units that holds so many bytes, and `None` where there is none. No bytes
+    /// take no units, and their run begins at 0.
+    pub fn free_run(&self, len: u64) -> Option<u64>
+        requires { len ≤ most_bytes }
+        ensures run { result ≡ free_run self.now.state (units_of len) }
+        ensures placed { IsPlaced self.now.state }
+        ensures low { self.now.state.limits.units ≤ 2 ^ 51 }
+    {
+        match self.area.find_free(len) {
+            Some(run) => Some(run.start),
             None => None,
         }
     }
@@ -222,7 +255,9 @@ impl Index {
     }
 
     fn found(&self, space: &Namespace, hash: &IoHash) -> Option<&PackedBlob>
-        ensures { option_copied result ≡ blob_at self.now.state space.now hash.now }
+        ensures found { option_copied result ≡ blob_at self.now.state space.now hash.now }
+        ensures placed { IsPlaced self.now.state }
+        ensures low { self.now.state.limits.units ≤ 2 ^ 51 }
     {
         self.blobs.get(&BlobName {
             space: *space,

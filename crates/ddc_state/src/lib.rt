@@ -1,5 +1,6 @@
 //! The index of a store: its namespaces, its blobs with their links, and its references, as entries of its history
-//! change them. `ddc_model` defines the state, and what each entry leaves.
+//! change them, and which units of the blob file its blobs have. `ddc_model` defines the state, and what each entry
+//! leaves.
 #![tactic(auto)]
 
 mod blob_map;

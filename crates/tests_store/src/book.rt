@@ -1,5 +1,4 @@
-//! A store that another thread serves, whose devices come back, and stores that go from thread to thread. The hashes
-//! are from b3sum.
+//! A tied store, whose devices come back, and stores that go from thread to thread. The hashes are from b3sum.
 
 ghost use Rattle.ddc_disk.specs.Images.{devices_line};
 ghost use Rattle.ddc_disk.specs.MemDisks.{told_by};
@@ -7,13 +6,13 @@ ghost use Rattle.ddc_book.specs.Tied.{GoesOnFrom};
 
 use ddc_book::{Book, Held, Opened, Opening, StoreFault, Tied};
 use ddc_disk::{Devices, Disk, MemDisk};
-use ddc_model::Limits;
+use ddc_model::{Limits, MOST_BLOB_BYTES};
 use ddc_names::{Bucket, IoHash, Namespace, RefKey, RefName, RefSpot, Rows};
 use ddc_state::Checked;
 use io_hash::Intake;
 use std::alloc::Global;
 use std::marker::Brand;
-use std::thread::{Threads, join};
+use std::thread::join;
 
 // Of the byte `a`.
 const LEAF: IoHash = IoHash([
@@ -119,7 +118,7 @@ fn upload<K: Opening>(
     space: Namespace,
     blob: Checked,
 ) -> Option<u64> {
-    if blob.whole().bytes().len() > 67_108_864 {
+    if blob.whole().bytes().len() as u64 > MOST_BLOB_BYTES {
         return None;
     }
     done(tied.upload(alloc, space, blob, 7))
@@ -131,7 +130,7 @@ fn put<K: Opening>(
     name: RefName,
     object: Checked,
 ) -> Option<u64> {
-    if !object.is_object() || object.whole().bytes().len() > 67_108_864 {
+    if !object.is_object() || object.whole().bytes().len() as u64 > MOST_BLOB_BYTES {
         return None;
     }
     listed(tied.put(alloc, name, object, 7))
@@ -195,7 +194,7 @@ fn answer<K: Opening>(
         Call::Has => tied.has_blob(&space, LEAF).ok(),
         Call::Open => opened_length(tied.open_blob(alloc, &space, LEAF)),
         Call::Exist => listed(tied.exist(alloc, &space, &[LEAF, OTHER_LEAF])),
-        Call::Verify => done(tied.verify(&space, LEAF)),
+        Call::Verify => done(tied.verify(alloc, &space, LEAF)),
         Call::Blobs => Some(tied.index().blob_count()),
         Call::Steps => counted(tied),
         Call::Faults => Some(tied.faults()),
@@ -216,38 +215,8 @@ fn first_wrong<K: Opening>(
     None
 }
 
-// The same, and the store.
-fn session<K: Opening>(
-    alloc: Global,
-    tied: Tied<MemDisk, K>,
-    space: Namespace,
-) -> (Tied<MemDisk, K>, Option<usize>) {
-    let mut tied = tied;
-    let wrong = first_wrong(alloc, &mut tied, space);
-    (tied, wrong)
-}
-
-// Another thread serves a session, and this one stores a blob then.
-fn share<K: Opening + Send + Sync, R: Threads + Sync>(
-    rt: &R,
-    alloc: Global,
-    tied: Tied<MemDisk, K>,
-    space: Namespace,
-) -> (Tied<MemDisk, K>, Option<usize>) {
-    let ((mut tied, wrong), blob) = join(
-        rt,
-        move || session(alloc, tied, space),
-        || checked(alloc, b"b"),
-    );
-    if let Some(blob) = blob {
-        let _ = upload(alloc, &mut tied, space, blob);
-    }
-    (tied, wrong)
-}
-
-// The store is a new one.
-fn run<K: Opening + Send + Sync, R: Threads + Sync>(
-    rt: &R,
+// The store is a new one. A blob is stored after the session.
+fn run<K: Opening>(
     alloc: Global,
     devices: Devices<MemDisk>,
     space: Namespace,
@@ -257,8 +226,11 @@ fn run<K: Opening + Send + Sync, R: Threads + Sync>(
 {
     match Book::create(alloc, devices, Limits::standard()) {
         Ok(book) => {
-            let tied: Tied<MemDisk, K> = Tied::new(book);
-            let (tied, wrong) = share(rt, alloc, tied, space);
+            let mut tied: Tied<MemDisk, K> = Tied::new(book);
+            let wrong = first_wrong(alloc, &mut tied, space);
+            if let Some(blob) = checked(alloc, b"b") {
+                let _ = upload(alloc, &mut tied, space, blob);
+            }
             (tied.into_devices(), wrong)
         }
         Err((back, _)) => (back, Some(0)),
@@ -266,15 +238,14 @@ fn run<K: Opening + Send + Sync, R: Threads + Sync>(
 }
 
 // What comes back are the devices that were handed in.
-fn served<R: Threads + Sync>(
-    rt: &R,
+fn served(
     alloc: Global,
     devices: Devices<MemDisk>,
     space: Namespace,
 ) -> (Devices<MemDisk>, Option<usize>)
     ensures { GoesOnFrom (devices_line told_by devices) told_by result.0 }
 {
-    run::<Brand, R>(rt, alloc, devices, space)
+    run::<Brand>(alloc, devices, space)
 }
 
 // The number of steps of a store that these devices open to, and the length of the other leaf there.
@@ -290,12 +261,12 @@ fn opened(
 }
 
 #[test]
-fn another_thread_serves_a_tied_store(rt: HostRuntime) {
+fn a_tied_store_is_served(rt: HostRuntime) {
     let alloc = rt.alloc();
     let Ok(space) = Namespace::parse("game") else {
         panic!(rt; "no namespace");
     };
-    let (back, wrong) = served(&rt, alloc, new_devices(alloc), space);
+    let (back, wrong) = served(alloc, new_devices(alloc), space);
     assert_eq!(rt; wrong, None);
     assert_eq!(rt; back.first.calls(), 35);
     assert_eq!(rt; opened(alloc, back, space), Some((7, Ok(1))));

@@ -1,6 +1,6 @@
 //! Each public call once against bytes written by hand. Cases by the hundred are the files of `case_fields`.
 
-use ddc_entry::{one_entry, one_front, read_entry, read_front, write_entry, written_then_read};
+use ddc_entry::{one_entry, read_entry, write_entry, written_then_read};
 use ddc_model::Entry;
 use ddc_names::Namespace;
 use std::test::Fail;
@@ -44,18 +44,11 @@ fn bytes_are_an_entry_or_none(rt: HostRuntime) -> Result<(), Fail> {
         )
     );
     assert!(rt; read_entry(rt.alloc(), &SPELLED[..13])?.is_none());
-    Ok(())
-}
-
-#[test]
-fn a_front_is_read_with_its_length(rt: HostRuntime) -> Result<(), Fail> {
-    let front = read_front(rt.alloc(), b"\x01\x04game\x18\0\0\0\x04\0\0\0\x07rest")?;
-    assert!(rt; matches!(front, Some((Entry::Space { ttl: 24, .. }, 14))));
+    assert!(rt; read_entry(rt.alloc(), b"\x01\x04game\x18\0\0\0\x04\0\0\0\x07")?.is_none());
     Ok(())
 }
 
 #[test]
 fn laws(_rt: HostRuntime) {
     one_entry();
-    one_front();
 }

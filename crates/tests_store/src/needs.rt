@@ -67,16 +67,18 @@ fn name_of(space: &str, bucket: &str) -> Result<RefName, Fail> {
     })
 }
 
+// A blob of one byte, which stands at this unit.
 fn blob_entry(
     alloc: Global,
     space: Namespace,
     number: u64,
+    start: u64,
     nodes: &[Node],
 ) -> Result<Entry, NoMemory> {
     let blob = Stored {
         hash: hash_of(number),
         len: 1,
-        start: 10,
+        start,
         links: Rows::of_vec(links_of(alloc, nodes)?),
     };
     Ok(Entry::Upload {
@@ -128,7 +130,13 @@ fn stores(
     number: u64,
     nodes: &[Node],
 ) -> Result<bool, Fail> {
-    let entry = blob_entry(alloc, Namespace::parse(space)?, number, nodes)?;
+    let entry = blob_entry(
+        alloc,
+        Namespace::parse(space)?,
+        number,
+        index.blob_count(),
+        nodes,
+    )?;
     Ok(applies(alloc, index, &entry)?)
 }
 

@@ -3,12 +3,12 @@
 use ddc_disk::{Devices, Disk, HeldDevices, MemDisk};
 use ddc_model::{Entry, Limits, SpaceRow};
 use ddc_names::{Namespace, Rows};
-use ddc_opening::{OpenFault, OpenedStore, added_name, create_store, fresh_of, load_store};
+use ddc_opening::{OpenFault, OpenedStore, create_store, fresh_of, load_store};
 use std::alloc::Global;
 
 // A store with the namespace `game`, of 24 and 4 hours.
 const GAME: [u8; 41] = [
-    0x44, 0x44, 0x43, 0x4a, 0x4c, 0x4f, 0x47, 0x0a, 0, 0, 0, 0, 1, 0, 0, 0, 0, 0, 0, 0, 1, 1, 0x0e,
+    0x44, 0x44, 0x43, 0x4a, 0x4c, 0x4f, 0x47, 0x0a, 1, 0, 0, 0, 1, 0, 0, 0, 0, 0, 0, 0, 1, 1, 0x0e,
     0, 0, 0, 1, 4, 0x67, 0x61, 0x6d, 0x65, 0x18, 0, 0, 0, 4, 0, 0, 0, 0,
 ];
 
@@ -26,7 +26,7 @@ fn devices(alloc: Global) -> HeldDevices<MemDisk> {
 fn found(opened: Result<OpenedStore, OpenFault>) -> Result<(usize, Option<SpaceRow>), OpenFault> {
     let store = opened?;
     let times = match Namespace::parse("game") {
-        Ok(game) => store.tables.index.space(&game),
+        Ok(game) => store.index.space(&game),
         Err(_) => None,
     };
     Ok((store.steps.len(), times))
@@ -62,5 +62,5 @@ fn a_namespace_adds_no_blob(rt: HostRuntime) {
         ttl: 24,
         pin: 4,
     };
-    assert!(rt; fresh_of(&entry).is_none() && added_name(&entry).is_none());
+    assert!(rt; fresh_of(&entry).is_none());
 }

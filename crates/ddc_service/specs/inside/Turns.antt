@@ -2,6 +2,8 @@
 use Rattle.std.specs.Prelude.{◌≡◌, ◌⊎◌, ℕ, Bool, true, false, List, [], Option, IfSome}
 use Rattle.std.specs.Io.KnownBytes.{Keeps, Appends, IsAtEnd}
 use Rattle.ddc_link.specs.Writes.{AppendsFront}
+use Rattle.ddc_disk.specs.Disk.{Meaning}
+use Rattle.ddc_book.specs.View.{BookView}
 use Rattle.ddc_protocol.specs.Requests.{Item, IsUnread, IsCut}
 use Rattle.ddc_protocol.specs.Replies.{unread_reply}
 use Rattle.ddc_http.specs.Reader.{Ahead, bytes_of_ahead, TakesRequest, LosesPart}
@@ -11,8 +13,9 @@ use Rattle.ddc_service.specs.declared.session.SessionEnd.TheVariants.{Closed, Un
 use Rattle.ddc_service.specs.declared.session.Turn.{Turn}
 use Rattle.ddc_service.specs.declared.session.Turn.TheVariants.{Answered, Over}
 use Rattle.ddc_service.specs.Effects.{Effect, Bytes, Rises, MeetsNoFault}
-use Rattle.ddc_service.specs.Replies.{OpenStore, IsReplyAt, IsChangeAt, failed_reply}
-use Rattle.ddc_service.specs.inside.Writes.{SinkCounts}
+use Rattle.ddc_service.specs.Replies.{OpenStore, IsReplyAt, FailsAt, failed_reply}
+use Rattle.ddc_service.specs.Session.{store_of}
+use Rattle.ddc_service.specs.inside.Writes.{SinkCounts, Goes}
 
 -- what stands ahead of a reader before a turn and after it, and the places
 pub record Reading : Type 0 where
@@ -43,9 +46,15 @@ TurnAs told r close sink store next (Over ReadFailed) = LosesPart (bytes_of_ahea
 TurnAs told r close sink store next (Over WriteFailed) =
     ((damaged : Bool) × (text : List ℕ) × TookAndReplied told r damaged close store next text × AppendsFront sink.before sink.after text)
     ⊎ (IfSome (bytes_of_ahead r.old) IsUnread × AppendsFront sink.before sink.after unread_reply × (next ≡ store))
-TurnAs told r close sink store next (Over DiskFailed) = (item : Item) × TookItem r item × IsChangeAt told store item next × AppendsFront sink.before sink.after failed_reply
+TurnAs told r close sink store next (Over DiskFailed) = (item : Item) × TookItem r item × FailsAt told store item next × AppendsFront sink.before sink.after failed_reply
 TurnAs told r close sink store next (Over Damaged) = (text : List ℕ) × TookAndReplied told r true close store next text × AppendsFront sink.before sink.after text
 TurnAs told r close sink store next (Over NoMemory) = Keeps sink.before sink.after × ((next ≡ store) ⊎ ((text : List ℕ) × TookAndReplied told r false close store next text))
+
+-- how the devices go on: not at all, to the state after the turn, or where they failed, to the one that the item leads to
+abbrev pub TurnGoes : {D : Type 0} → Bool → (D → Meaning) → Option ℕ → Reading → BookView D → BookView D → Turn → Type 0
+TurnGoes tells meaning told r book next (Over DiskFailed) =
+    (item : Item) × TookItem r item × (failure : FailsAt told (store_of book) item (store_of next)) × Goes tells meaning book failure.final.cache next
+TurnGoes tells meaning told r book next other = (next ≡ book) ⊎ Goes tells meaning book next.cache next
 
 -- the counts of faults of the source and of the sink
 abbrev pub TurnCounts : Effect Bytes → Effect Bytes → Turn → Type 0

@@ -8,8 +8,8 @@ ghost use Rattle.ddc_model.specs.declared.entry.Entry.TheVariants.{Space, Upload
 ghost use Rattle.ddc_state.specs.Views.{in_state, without_blob};
 
 use super::Index;
-use super::legal::done_in;
-use ddc_model::{Blob, BlobName, BlobRow, Extent, SpaceRow, Stored};
+use super::legal::{blob_extent, done_in};
+use ddc_model::{Blob, BlobName, BlobRow, SpaceRow, Stored};
 use ddc_names::{IoHash, Namespace, NoMemory, RefName, Rows};
 use ref_store::Slot;
 use std::alloc::Global;
@@ -135,12 +135,17 @@ impl Index {
         ensures ok { OnOk result (self.new ≡ in_state self.old (with_blob self.old.state space.now blob.now hour)) }
         ensures err { OnErr result (self.new ≡ self.old) }
     {
-        let row = stored_blob(alloc, blob, hour)?;
+        let kept = stored_blob(alloc, blob, hour)?;
+        let extent = kept.row.extent;
         let name = BlobName {
             space: *space,
             hash: blob.hash,
         };
-        self.blobs.add(&name, row)?;
+        self.area.claim(extent)?;
+        if let Err(NoMemory) = self.blobs.add(&name, kept) {
+            self.area.release(extent);
+            return Err(NoMemory);
+        }
         Ok(())
     }
 
@@ -161,7 +166,9 @@ impl Index {
             space: *space,
             hash: *hash,
         };
-        self.blobs.remove(&name);
+        if let Some(row) = self.blobs.remove(&name) {
+            self.area.release(row.extent);
+        }
     }
 
     fn put_slot(
@@ -202,15 +209,11 @@ fn stored_blob(alloc: Global, blob: &Stored, hour: u32) -> Result<Blob, NoMemory
     ensures { IfOk result (λ kept. kept ≡ blob_of blob.now hour) }
 {
     let links = Vec::from_slice(alloc, blob.links.as_slice())?;
-    let extent = Extent {
-        start: blob.start,
-        units: blob.len.div_ceil(4096) as u32,
-    };
     Ok(Blob {
         row: BlobRow {
             len: blob.len,
             at: hour,
-            extent,
+            extent: blob_extent(blob),
         },
         links: Rows::of_vec(links),
     })

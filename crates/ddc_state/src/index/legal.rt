@@ -1,18 +1,18 @@
 //! What makes an entry legal.
 
-ghost use Rattle.std.specs.Prelude.{◌≡◌, is_some};
+ghost use Rattle.std.specs.Prelude.{◌≡◌, ◌≤◌, is_some};
 ghost use Rattle.std.specs.FinMap as map;
 ghost use Rattle.ddc_model.specs.State.{done_of, has_blob, pending_of};
-ghost use Rattle.ddc_model.specs.Entries.{is_fresh, is_hash, is_root, is_time};
+ghost use Rattle.ddc_model.specs.Entries.{extent_of, is_fresh, is_hash, is_root, is_time};
+ghost use Rattle.ddc_model.specs.Extents.{is_free};
+ghost use Rattle.ddc_model.specs.Limits.{most_bytes};
 
 use super::Index;
-use ddc_model::{BlobName, Stored};
+use ddc_model::{BlobName, Extent, MOST_BLOB_BYTES, Stored};
 use ddc_names::{IoHash, Namespace, RefName};
 use ref_store::Slot;
 
 const MOST_HOURS: u32 = 1_000_000;
-
-const MOST_BYTES: u64 = 67_108_864;
 
 const MOST_LINKS: usize = 4_194_304;
 
@@ -29,7 +29,16 @@ impl Index {
     pub(super) fn takes(&self, space: &Namespace, blob: &Stored) -> bool
         ensures { result ≡ is_fresh self.now.state space.now blob.now }
     {
-        !self.has(space, &blob.hash) && blob.len <= MOST_BYTES && blob.links.len() <= MOST_LINKS
+        !self.has(space, &blob.hash)
+            && blob.len <= MOST_BLOB_BYTES
+            && blob.links.len() <= MOST_LINKS
+            && self.has_free(blob_extent(blob))
+    }
+
+    fn has_free(&self, extent: Extent) -> bool
+        ensures { result ≡ is_free self.now.state extent }
+    {
+        self.area.is_free(extent)
     }
 
     pub(super) fn takes_root(
@@ -59,6 +68,17 @@ impl Index {
         ensures { result ≡ is_some (done_of (map.get self.now.state.slots name.now)) }
     {
         done_in(self.refs.get(name)).is_some()
+    }
+}
+
+// Where the bytes of a blob stand.
+pub(super) fn blob_extent(blob: &Stored) -> Extent
+    requires { blob.now.len ≤ most_bytes }
+    ensures { result ≡ extent_of blob.now }
+{
+    Extent {
+        start: blob.start,
+        units: blob.len.div_ceil(4096) as u32,
     }
 }
 

@@ -14,9 +14,9 @@ loop-hash-preserved c =
     let lt = c.loop-hash-test.true in
     elim c.if-is_none.branch [
       | then-is_none+in_ok-insert w ↦ subst (IsSought s space hashes (i + 1)) (sym w.found-is)
-          (one_added s space hashes i (record { 0 = [] }) lt c.loop-hash.found w.insert.new.self (mapped (λ (blob : Blob). blob.row) _ ∙ ap is_some (sym c.blob.ensures) ∙ c.is_none.ensures ∙ ap not w.if-is_none.true) w.in_ok-insert.ensures.updates.0 c.loop-hash.invariant)
+          (one_added s space hashes i (record { 0 = [] }) lt c.loop-hash.found w.insert.new.self (mapped (λ (blob : Blob). blob.row) _ ∙ ap is_some (sym c.blob.ensures.row) ∙ c.is_none.ensures ∙ ap not w.if-is_none.true) w.in_ok-insert.ensures.updates.0 c.loop-hash.invariant)
       | else-is_none w ↦ subst (IsSought s space hashes (i + 1)) (sym w.found-is)
-          (none_added s space hashes i (record { 0 = [] }) lt c.loop-hash.found (mapped (λ (blob : Blob). blob.row) _ ∙ ap is_some (sym c.blob.ensures) ∙ c.is_none.ensures ∙ ap not w.if-is_none.false) c.loop-hash.invariant)
+          (none_added s space hashes i (record { 0 = [] }) lt c.loop-hash.found (mapped (λ (blob : Blob). blob.row) _ ∙ ap is_some (sym c.blob.ensures.row) ∙ c.is_none.ensures ∙ ap not w.if-is_none.false) c.loop-hash.invariant)
     ]
 
 pub returns : goal.returns

@@ -1,13 +1,19 @@
-use Rattle.std.proofs.Common.{[]}
-use Rattle.ddc_entry.specs.Spelling.{spelling}
-use Rattle.ddc_entry.proofs.Entries.{not_there, too_short, with_no_rest}
+use Rattle.std.proofs.Common.{arith, ap, subst, List, ℕ, ◌≡◌, Some}
+use Rattle.ddc_entry.specs.inside.Reading.{entry_at}
+use Rattle.ddc_entry.proofs.Entries.{found_whole, found_same, none_left, not_refused, some_left}
 use Rattle.ddc_entry.proofs.reading.read_entry.Goals as goal
 
-pub returns-then-len-bytes-clause-spelled_is_found : goal.returns-then-len-bytes-clause-spelled_is_found
-returns-then-len-bytes-clause-spelled_is_found c = λ e p same.
-    let found = (rw c.in-Ok-Some.field-0-is at c.in-Ok-Some.ensures.spelled_is_found) e [] p (with_no_rest c.args.bytes.now (spelling e) same) in
-    too_short c.args.bytes.now c.in-Ok-Some.entry e c.in-Ok-Some.len found c.if-len-bytes.true same
+pub returns-then-not-is_empty-clause-spelled_is_found : goal.returns-then-not-is_empty-clause-spelled_is_found
+returns-then-not-is_empty-clause-spelled_is_found c = λ e p same.
+    absurd (some_left c.in-Ok.rest.now c.if-not-is_empty.ensures (found_same c.args.bytes.now c.in-Ok.rest.now c.in-Ok.entry e c.in-Ok.ensures p same).1)
 
-pub returns-in-Ok-None-clause-spelled_is_found : goal.returns-in-Ok-None-clause-spelled_is_found
-returns-in-Ok-None-clause-spelled_is_found c = λ e p same.
-    not_there e _ ((rw c.in-Ok-None.field-0-is at c.in-Ok-None.ensures.spelled_is_found) e [] p (with_no_rest c.args.bytes.now (spelling e) same))
+pub returns-else-not-is_empty-clause-found_is_spelled : goal.returns-else-not-is_empty-clause-found_is_spelled
+returns-else-not-is_empty-clause-found_is_spelled c =
+    let none = none_left c.in-Ok.rest.now c.if-not-is_empty.ensures in
+    found_whole c.args.bytes.now c.in-Ok.entry (λ i. omega (arith, c.type_inv.bytes i)) (subst (λ (r : List ℕ). entry_at c.args.bytes.now ≡ Some (c.in-Ok.entry, r)) none c.in-Ok.ensures)
+
+pub returns-else-not-is_empty-clause-spelled_is_found : goal.returns-else-not-is_empty-clause-spelled_is_found
+returns-else-not-is_empty-clause-spelled_is_found c = λ e p same. ap Some (found_same c.args.bytes.now c.in-Ok.rest.now c.in-Ok.entry e c.in-Ok.ensures p same).0
+
+pub returns-in-Err-Refused-clause-spelled_is_found : goal.returns-in-Err-Refused-clause-spelled_is_found
+returns-in-Err-Refused-clause-spelled_is_found c = λ e p same. absurd (not_refused c.args.bytes.now e (rw c.in-Err-Refused.field-0-is at c.in-Err-Refused.ensures) p same)

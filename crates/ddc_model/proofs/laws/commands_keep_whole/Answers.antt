@@ -1,12 +1,5 @@
 use Rattle.ddc_model.proofs.laws.commands_keep_whole.Goals as goal
 use Rattle.ddc_model.proofs.Whole.{space_whole, upload_whole, put_whole, finalise_whole, get_whole, delete_whole}
-use Rattle.ddc_model.proofs.Bytes.{sound_has_bytes, bytes_kept}
-
-pub returns-clause-sound : goal.returns-clause-sound
-returns-clause-sound c = sound_has_bytes
-
-pub returns-clause-bytes : goal.returns-clause-bytes
-returns-clause-bytes c = bytes_kept
 
 pub returns-clause-space : goal.returns-clause-space
 returns-clause-space c = space_whole

@@ -11,13 +11,15 @@ use Rattle.ddc_service.specs.Session.{session, store_of, IsSession}
 use Rattle.ddc_service.proofs.Writing.{rose_later}
 use Rattle.ddc_service.proofs.Turning.{ends_counts}
 use Rattle.ddc_service.proofs.Runs.{SoFar, at_start, extends, ends, spends}
-use Rattle.ddc_service.proofs.Crashes.{crash_started, crash_more, stops, later_faults}
+use Rattle.ddc_service.proofs.Held.{reaches_now}
+use Rattle.ddc_service.proofs.Crashes.{crash_started, crash_more, reaches_more, stops}
 use Rattle.ddc_service.proofs.session.serve_requests.Goals as goal
 
 pub requests-init : goal.requests-init
 requests-init g c = record {
   so_far = at_start (g.C.Clock.tells c.args.clock.now) (g.S.Source.left (source_of c.args.reader.now)) (g.W.Sink.written c.args.sink.now) (store_of c.args.book.now) (held_of c.args.reader.now) (place_of c.args.reader.now) c.requires.bare c.requires.place;
-  crash = λ tells. crash_started g.D.Disk.meaning (g.C.Clock.tells c.args.clock.now) (g.S.Source.left (source_of c.args.reader.now)) c.args.book.now g.met.D.Disk.rests;
+  crash = crash_started g.D.Disk.tells g.D.Disk.meaning (g.C.Clock.tells c.args.clock.now) (g.S.Source.left (source_of c.args.reader.now)) c.args.book.now g.met.D.Disk.rests;
+  reaches = reaches_now g.D.Disk.meaning g.met.D.Disk.rests g.met.D.Disk.reads g.D.Disk.tells g.met.D.Disk.told c.args.book.now;
   goes_on = c.requires.not_ended;
   unbroken = c.requires.unbroken;
   limits = refl;
@@ -34,16 +36,16 @@ returns-in-Over-clause-gives g c =
     c.in-Over.end c.in-Over.ensures.gives
 
 pub returns-in-Over-clause-any_moment : goal.returns-in-Over-clause-any_moment
-returns-in-Over-clause-any_moment g c = λ tells opens.
+returns-in-Over-clause-any_moment g c = λ opens.
     crash_more g.D.Disk.tells g.D.Disk.meaning (g.C.Clock.tells c.args.clock.now) (effect g.S.Source.left g.S.Source.faults (source_of c.args.reader.now) (source_of c.take_turn.new.reader)) (effect g.W.Sink.written g.W.Sink.faults c.args.sink.now c.take_turn.new.sink) c.args.book.now c.requests.book c.take_turn.new.book
-    (ahead_of g.S.Source.left c.requests.reader) (held_of c.take_turn.new.reader) (g.W.Sink.written c.requests.sink) (g.W.Sink.faults c.requests.sink) c.requests.count (place_of c.requests.reader) (place_of c.take_turn.new.reader) (closes c.requests.count) (omega arith) refl c.requests.invariant.so_far c.take_turn.ensures.devices c.requests.invariant.unbroken c.requests.invariant.limits
-    (Over c.in-Over.end) c.in-Over.ensures.gives tells (c.requests.invariant.crash tells opens)
+    (ahead_of g.S.Source.left c.requests.reader) (held_of c.take_turn.new.reader) (g.W.Sink.written c.requests.sink) (g.W.Sink.faults c.requests.sink) c.requests.count (place_of c.requests.reader) (place_of c.take_turn.new.reader) (closes c.requests.count) (omega arith) refl c.requests.invariant.so_far c.requests.invariant.unbroken c.requests.invariant.limits
+    (Over c.in-Over.end) c.in-Over.ensures.gives c.in-Over.ensures.devices opens.0 (c.requests.invariant.reaches opens) (c.requests.invariant.crash opens)
 
 pub returns-in-Over-clause-stops : goal.returns-in-Over-clause-stops
-returns-in-Over-clause-stops g c =
+returns-in-Over-clause-stops g c = λ opens.
     stops g.D.Disk.tells g.D.Disk.meaning (g.C.Clock.tells c.args.clock.now) (effect g.S.Source.left g.S.Source.faults (source_of c.args.reader.now) (source_of c.take_turn.new.reader)) (effect g.W.Sink.written g.W.Sink.faults c.args.sink.now c.take_turn.new.sink) c.args.book.now c.requests.book c.take_turn.new.book
-    (ahead_of g.S.Source.left c.requests.reader) (held_of c.take_turn.new.reader) (g.W.Sink.written c.requests.sink) (g.W.Sink.faults c.requests.sink) c.requests.count (place_of c.requests.reader) (place_of c.take_turn.new.reader) (closes c.requests.count) (omega arith) refl c.requests.invariant.so_far c.take_turn.ensures.devices c.requests.invariant.unbroken c.requests.invariant.limits
-    c.in-Over.end c.in-Over.ensures.gives
+    (ahead_of g.S.Source.left c.requests.reader) (held_of c.take_turn.new.reader) (g.W.Sink.written c.requests.sink) (g.W.Sink.faults c.requests.sink) c.requests.count (place_of c.requests.reader) (place_of c.take_turn.new.reader) (closes c.requests.count) (omega arith) refl c.requests.invariant.so_far c.requests.invariant.unbroken c.requests.invariant.limits
+    c.in-Over.end c.in-Over.ensures.devices opens.0 (c.requests.invariant.reaches opens)
 
 pub returns-in-Over-clause-counts : goal.returns-in-Over-clause-counts
 returns-in-Over-clause-counts g c =
@@ -54,16 +56,16 @@ returns-in-Over-clause-counts g c =
 
 pub requests-preserved : goal.requests-preserved
 requests-preserved g c =
-    let later = later_faults g.D.Disk.tells g.D.Disk.meaning (g.C.Clock.tells c.args.clock.now) (effect g.S.Source.left g.S.Source.faults (source_of c.args.reader.now) (source_of c.take_turn.new.reader)) (effect g.W.Sink.written g.W.Sink.faults c.args.sink.now c.take_turn.new.sink) c.args.book.now c.requests.book c.take_turn.new.book
-    (ahead_of g.S.Source.left c.requests.reader) (held_of c.take_turn.new.reader) (g.W.Sink.written c.requests.sink) (g.W.Sink.faults c.requests.sink) c.requests.count (place_of c.requests.reader) (place_of c.take_turn.new.reader) (closes c.requests.count) (omega arith) refl c.requests.invariant.so_far c.take_turn.ensures.devices c.requests.invariant.unbroken c.requests.invariant.limits in
+    let later = c.take_turn.ensures.later_disk in
     record {
       so_far = extends (session (g.C.Clock.tells c.args.clock.now) (effect g.S.Source.left g.S.Source.faults (source_of c.args.reader.now) (source_of c.take_turn.new.reader)) (effect g.W.Sink.written g.W.Sink.faults c.args.sink.now c.take_turn.new.sink) (effect store_of (book_faults g.D.Disk.meaning) c.args.book.now c.take_turn.new.book))
           (ahead_of g.S.Source.left c.requests.reader) (held_of c.take_turn.new.reader) (g.W.Sink.written c.requests.sink) (g.W.Sink.faults c.requests.sink) (store_of c.requests.book) c.requests.count (place_of c.requests.reader) (place_of c.take_turn.new.reader) (closes c.requests.count) (omega arith) refl c.requests.invariant.so_far
           c.in-Answered.ensures.gives;
-      crash = λ tells opens.
+      crash = λ opens.
           crash_more g.D.Disk.tells g.D.Disk.meaning (g.C.Clock.tells c.args.clock.now) (effect g.S.Source.left g.S.Source.faults (source_of c.args.reader.now) (source_of c.take_turn.new.reader)) (effect g.W.Sink.written g.W.Sink.faults c.args.sink.now c.take_turn.new.sink) c.args.book.now c.requests.book c.take_turn.new.book
-          (ahead_of g.S.Source.left c.requests.reader) (held_of c.take_turn.new.reader) (g.W.Sink.written c.requests.sink) (g.W.Sink.faults c.requests.sink) c.requests.count (place_of c.requests.reader) (place_of c.take_turn.new.reader) (closes c.requests.count) (omega arith) refl c.requests.invariant.so_far c.take_turn.ensures.devices c.requests.invariant.unbroken c.requests.invariant.limits
-          Answered c.in-Answered.ensures.gives tells (c.requests.invariant.crash tells opens);
+          (ahead_of g.S.Source.left c.requests.reader) (held_of c.take_turn.new.reader) (g.W.Sink.written c.requests.sink) (g.W.Sink.faults c.requests.sink) c.requests.count (place_of c.requests.reader) (place_of c.take_turn.new.reader) (closes c.requests.count) (omega arith) refl c.requests.invariant.so_far c.requests.invariant.unbroken c.requests.invariant.limits
+          Answered c.in-Answered.ensures.gives c.in-Answered.ensures.devices opens.0 (c.requests.invariant.reaches opens) (c.requests.invariant.crash opens);
+      reaches = λ opens. reaches_more g.D.Disk.tells g.D.Disk.meaning c.requests.book c.take_turn.new.book c.in-Answered.ensures.devices opens.0 (c.in-Answered.ensures.unbroken (λ e. cc)) (c.requests.invariant.reaches opens);
       goes_on = c.in-Answered.ensures.goes_on refl;
       unbroken = c.in-Answered.ensures.unbroken (λ e. cc);
       limits = c.take_turn.ensures.limits ∙ c.requests.invariant.limits;

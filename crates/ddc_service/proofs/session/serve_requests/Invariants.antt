@@ -1,11 +1,10 @@
 use Rattle.std.proofs.Common.{◌≡◌, ◌≤◌, false, None}
-use Rattle.std.specs.Prelude.{IsTrue}
 use Rattle.ddc_disk.specs.Disk.{EachSince}
 use Rattle.ddc_model.specs.History.{broken_by}
-use Rattle.ddc_book.specs.View.{limits_of, book_line, book_faults}
+use Rattle.ddc_book.specs.View.{limits_of, book_line, book_faults, Reaches}
 use Rattle.ddc_http.specs.Stream.{source_of, ahead_of, place_of, has_ended}
-use Rattle.ddc_service.specs.Session.{store_of}
-use Rattle.ddc_service.proofs.Crashes.{Within, OpensFirst}
+use Rattle.ddc_service.specs.Session.{store_of, OpensNow}
+use Rattle.ddc_service.proofs.Crashes.{Within}
 use Rattle.ddc_service.proofs.Runs.{SoFar}
 use Rattle.ddc_service.proofs.session.serve_requests.Given as goal
 
@@ -13,8 +12,9 @@ abbrev pub invariant-requests : goal.invariant-requests
 invariant-requests g l = record {
   so_far : SoFar (g.C.Clock.tells l.initial.clock) (g.S.Source.left (source_of l.initial.reader)) (ahead_of g.S.Source.left l.reader) (g.W.Sink.written l.initial.sink) (g.W.Sink.written l.sink)
       (store_of l.initial.book) (store_of l.book) l.count (place_of l.reader);
-  crash : IsTrue g.D.Disk.tells → OpensFirst g.D.Disk.meaning (g.C.Clock.tells l.initial.clock) (g.S.Source.left (source_of l.initial.reader)) l.initial.book
-      → EachSince (book_line g.D.Disk.meaning l.initial.book) (book_line g.D.Disk.meaning l.book) (Within g.D.Disk.meaning (g.C.Clock.tells l.initial.clock) (g.S.Source.left (source_of l.initial.reader)) l.initial.book);
+  crash : OpensNow g.D.Disk.tells g.D.Disk.meaning l.initial.book
+      → EachSince (book_line g.D.Disk.meaning l.initial.book) (book_line g.D.Disk.meaning l.book) (Within g.D.Disk.tells g.D.Disk.meaning (g.C.Clock.tells l.initial.clock) (g.S.Source.left (source_of l.initial.reader)) l.initial.book);
+  reaches : OpensNow g.D.Disk.tells g.D.Disk.meaning l.initial.book → Reaches g.D.Disk.meaning l.book;
   goes_on : has_ended l.reader ≡ false;
   unbroken : broken_by l.book.steps ≡ None;
   limits : limits_of l.book ≡ limits_of l.initial.book;

@@ -2,7 +2,7 @@ use Rattle.std.proofs.Common.{◌≡◌, ◌<◌, ℕ, sym, ap, subst, ◌∙◌
 use Rattle.blob_store.specs.inside.Areas.{extents_in}
 use Rattle.blob_store.specs.inside.Runs.{first_gap}
 use Rattle.blob_store.specs.Claims.{IsFirstRun, HasNoRun}
-use Rattle.ddc_model.specs.Entries.{units_of}
+use Rattle.ddc_model.specs.Extents.{units_of}
 use Rattle.blob_store.proofs.Placed.{in_order_of}
 use Rattle.blob_store.proofs.Runs.{in_order_weaker}
 use Rattle.blob_store.proofs.Claimed.{run_start, run_start_is, RunFound, run_found, first_run, no_run}

@@ -7,5 +7,10 @@ use Rattle.ddc_book.proofs.book.Book.put.Goals as goal
 
 pub returns-then-not-has_space-clause-gives : goal.returns-then-not-has_space-clause-gives
 returns-then-not-has_space-clause-gives g c =
-    let s = c.args.self.now.cache.index in
-    refuses c.args.self.now c.args.object.bytes (PutAs s c.args.name c.args.object c.args.hour) (sym c.in_default.ensures.count) UnknownSpace tt (put_unknown s c.args.name c.args.object c.args.hour (sym c.has_space.ensures ∙ c.if-not-has_space.true))
+    let old = c.args.self.now in
+    let s = old.cache.index in
+    refuses g.D.Disk.meaning old old c.args.object.bytes (PutAs s c.args.name c.args.object c.args.hour) (sym c.in_default.ensures.count) c.in_default.ensures.still.stays UnknownSpace tt
+    (put_unknown s c.args.name c.args.object c.args.hour (sym c.has_space.ensures ∙ c.if-not-has_space.true))
+
+pub returns-then-not-has_space-clause-goes_on : goal.returns-then-not-has_space-clause-goes_on
+returns-then-not-has_space-clause-goes_on g c = c.in_default.ensures.still.goes c.args.object.bytes

@@ -19,6 +19,6 @@ invariant_of-self c =
     let links : length c.links.result.now ≡ length c.in-Some.blob.links = ap length c.links.ensures in
     omega arith
 
-pub invariant_of-self-in_default : goal.invariant_of-self-in_default
-invariant_of-self-in_default c =
-    ap links_in_all (c.remove.ensures.gone ∙ sym (none_removed blob_cmp blob_total blob_exact c.self.inside.blobs c.args.name.now (sym c.in_default.is ∙ c.remove.ensures.value))) ∙ c.self.invariant
+pub invariant_of-self-in-None : goal.invariant_of-self-in-None
+invariant_of-self-in-None c =
+    ap links_in_all (c.remove.ensures.gone ∙ sym (none_removed blob_cmp blob_total blob_exact c.self.inside.blobs c.args.name.now (sym c.in-None.is ∙ c.remove.ensures.value))) ∙ c.self.invariant
