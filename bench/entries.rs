@@ -1,4 +1,7 @@
 // The same bytes as crates/bench_entry, by plain Rust. Words: LINKS TIMES.
+mod fields;
+
+use fields::{Link, take, take_links};
 use std::env;
 use std::hint::black_box;
 use std::time::Instant;
@@ -7,7 +10,7 @@ struct Blob {
     hash: [u8; 20],
     len: u64,
     start: u64,
-    links: Vec<(u8, [u8; 20])>,
+    links: Vec<Link>,
 }
 
 enum Entry {
@@ -47,12 +50,6 @@ fn write(entry: &Entry) -> Vec<u8> {
     out
 }
 
-fn take<const N: usize>(bytes: &mut &[u8]) -> Option<[u8; N]> {
-    let (front, rest) = bytes.split_first_chunk::<N>()?;
-    *bytes = rest;
-    Some(*front)
-}
-
 fn take_name(bytes: &mut &[u8]) -> Option<String> {
     let [len] = take::<1>(bytes)?;
     let (text, rest) = bytes.split_at_checked(len as usize)?;
@@ -72,14 +69,7 @@ fn read(mut bytes: &[u8]) -> Option<Entry> {
             let hash = take(rest)?;
             let len = u64::from_le_bytes(take(rest)?);
             let start = u64::from_le_bytes(take(rest)?);
-            let mut links = Vec::new();
-            for _ in 0..u32::from_le_bytes(take(rest)?) {
-                let [kind] = take::<1>(rest)?;
-                if kind > 1 {
-                    return None;
-                }
-                links.push((kind, take(rest)?));
-            }
+            let links = take_links(rest)?;
             let blob = Blob { hash, len, start, links };
             let hour = u32::from_le_bytes(take(rest)?);
             Entry::Upload { space, blob, hour }

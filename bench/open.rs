@@ -2,47 +2,16 @@
 // `open FOLDER`. The file is read whole, each entry read and seen to be legal, the maps and the list of entries built. Then
 // it writes a line, and ends where its standard input ends. It knows the entries that bench/many_blobs writes: namespaces
 // and uploads.
-use std::cmp::Ordering;
+mod fields;
+mod name;
+
+use fields::{Link, take, take_links};
+use name::Name;
 use std::collections::BTreeMap;
 use std::io::{Read, Write};
 use std::{env, fs, io, process};
 
-#[derive(Clone, Copy, PartialEq, Eq)]
-struct Name {
-    bytes: [u8; 64],
-    len: u8,
-}
-
-impl Name {
-    fn parse(text: &[u8]) -> Option<Name> {
-        let allowed = |b: &u8| b.is_ascii_alphanumeric() || matches!(b, b'-' | b'_' | b'.');
-        if text.is_empty() || text.len() > 64 || !text[0].is_ascii_alphanumeric() || !text.iter().all(allowed) {
-            return None;
-        }
-        let mut bytes = [0; 64];
-        bytes[..text.len()].copy_from_slice(text);
-        Some(Name { bytes, len: text.len() as u8 })
-    }
-
-    fn text(&self) -> &[u8] {
-        &self.bytes[..self.len as usize]
-    }
-}
-
-impl Ord for Name {
-    fn cmp(&self, other: &Name) -> Ordering {
-        self.text().cmp(other.text())
-    }
-}
-
-impl PartialOrd for Name {
-    fn partial_cmp(&self, other: &Name) -> Option<Ordering> {
-        Some(self.cmp(other))
-    }
-}
-
 type Hash = [u8; 20];
-type Link = (u8, Hash);
 
 struct Stored {
     hash: Hash,
@@ -77,12 +46,6 @@ struct Store {
 
 const MOST_UNITS: u64 = 268_435_456;
 
-fn take<const N: usize>(bytes: &mut &[u8]) -> Option<[u8; N]> {
-    let (front, rest) = bytes.split_first_chunk::<N>()?;
-    *bytes = rest;
-    Some(*front)
-}
-
 fn take_name(bytes: &mut &[u8]) -> Option<Name> {
     let [len] = take::<1>(bytes)?;
     let (text, rest) = bytes.split_at_checked(len as usize)?;
@@ -103,14 +66,7 @@ fn read(mut bytes: &[u8]) -> Option<Entry> {
             let hash = take(rest)?;
             let len = u64::from_le_bytes(take(rest)?);
             let start = u64::from_le_bytes(take(rest)?);
-            let mut links = Vec::new();
-            for _ in 0..u32::from_le_bytes(take(rest)?) {
-                let [kind] = take::<1>(rest)?;
-                if kind > 1 {
-                    return None;
-                }
-                links.push((kind, take(rest)?));
-            }
+            let links = take_links(rest)?;
             let blob = Stored { hash, len, start, links };
             Entry::Upload { space, blob, hour: u32::from_le_bytes(take(rest)?) }
         }

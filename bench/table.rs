@@ -1,38 +1,10 @@
 // What `bench_table` does, with Rust's own `BTreeMap` and keys of the same form: `table COUNT PAGES [TIMES]`.
-use std::cmp::Ordering;
+mod name;
+
+use name::Name;
 use std::collections::BTreeMap;
 use std::ops::Bound;
 use std::time::Instant;
-
-#[derive(Clone, Copy, PartialEq, Eq)]
-struct Name {
-    bytes: [u8; 64],
-    len: u8,
-}
-
-impl Name {
-    fn parse(text: &str) -> Name {
-        let mut bytes = [0; 64];
-        bytes[..text.len()].copy_from_slice(text.as_bytes());
-        Name { bytes, len: text.len() as u8 }
-    }
-
-    fn text(&self) -> &[u8] {
-        &self.bytes[..self.len as usize]
-    }
-}
-
-impl Ord for Name {
-    fn cmp(&self, other: &Name) -> Ordering {
-        self.text().cmp(other.text())
-    }
-}
-
-impl PartialOrd for Name {
-    fn partial_cmp(&self, other: &Name) -> Option<Ordering> {
-        Some(self.cmp(other))
-    }
-}
 
 #[derive(Clone, Copy, PartialEq, Eq, PartialOrd, Ord)]
 struct Spot {
@@ -73,8 +45,8 @@ fn main() {
     let words: Vec<String> = std::env::args().skip(1).collect();
     let count: u64 = words[0].parse().unwrap();
     let pages: u64 = words[1].parse().unwrap();
-    let space = Name::parse("ue5.ddc");
-    let buckets = ["textures", "meshes", "shaders", "animations"].map(Name::parse);
+    let space = Name::parse(b"ue5.ddc").unwrap();
+    let buckets = ["textures", "meshes", "shaders", "animations"].map(|text| Name::parse(text.as_bytes()).unwrap());
     let name = |i: u64| Key { space, spot: Spot { bucket: buckets[(mixed(i) % 4) as usize], key: key_of(i) } };
     let mut table = BTreeMap::new();
     let start = Instant::now();
