@@ -9,7 +9,8 @@ use Rattle.ddc_model.specs.declared.entry.Step.TheVariants.{Loaded}
 use Rattle.ddc_model.specs.State.{empty_state}
 use Rattle.ddc_model.specs.Sound.{AreWhole, empty_cache}
 use Rattle.ddc_model.specs.History.{broken_by}
-use Rattle.ddc_opening.specs.Opening.{OpensAs}
+use Rattle.ddc_journal.specs.Pairs.{IsNewPair}
+use Rattle.ddc_opening.specs.Opening.{version, OpensAs}
 use Rattle.ddc_opening.specs.Loading.{AsBefore, Creates, HeldSteps}
 use Rattle.ddc_book.specs.View.{BookView, limits_of, book_line, book_faults}
 
@@ -39,11 +40,12 @@ pub record IsLoaded {D : Type 0} (tells : Bool) (meaning : D → Meaning) (old :
   pub sure : IsTrue tells → AreSure meaning book.devices
   pub opens : IsTrue tells → EachImage (book_line meaning book) (λ im. OpensAs limits im book.cache)
 
--- the empty book
+-- the empty book, in a first journal file that was made just now; the second one isn't made
 pub record IsCreated {D : Type 0} (tells : Bool) (meaning : D → Meaning) (old : Devices D) (limits : Limits) (book : BookView D) : Type 0 where
   pub creates : Creates meaning old limits book.devices
   pub index : book.cache.index ≡ empty_state limits
   pub cache : IsTrue tells → book.cache ≡ empty_cache limits
+  pub fresh : IsTrue tells → IsNewPair meaning book.devices version
   pub steps : HasOpened meaning book []
   pub opened : book.opened ≡ (devices_line meaning book.devices).moment
   pub sure : IsTrue tells → AreSure meaning book.devices

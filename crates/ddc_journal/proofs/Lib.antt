@@ -4,6 +4,8 @@ mod Ranks
 mod Append
 mod Making
 mod Reading
+mod Fronts
+mod Windows
 mod Once
 mod PairLent
 mod Pairing

@@ -7,7 +7,7 @@ use Rattle.ddc_disk.specs.Images.{Images}
 use Rattle.ddc_disk.specs.Told.{at_told}
 use Rattle.ddc_disk.specs.declared.devices.Devices.{Devices}
 use Rattle.ddc_journal.specs.Journal.{journal_bytes, rank, IsEither, IsJournal, StandsAs}
-use Rattle.ddc_journal.specs.Pairs.{pair_kind, takes_second, taken, IsOpenPair, IsPairOf, IsPairReady, IfBoth, NoneMade, PairView}
+use Rattle.ddc_journal.specs.Pairs.{pair_kind, takes_second, taken, IfBoth, IsNewPair, IsOpenPair, IsPairOf, IsPairReady, NoneMade, PairView}
 use Rattle.ddc_journal.specs.inside.Closing.{IsRemade, IsSureOf, IsUnmade}
 use Rattle.ddc_journal.specs.inside.Scanning.{IsScan}
 use Rattle.ddc_journal.specs.inside.PairFiles.{created, device_of, other_of, OneChanges}
@@ -211,6 +211,16 @@ created_ready {D} meaning new version closed unmade sure made =
       second_sure = sure;
       opened = record { active = takes; journal = subst (IsJournal version 1 []) (sym (taken_is false made.file closed takes)) made.loads; place = refl };
     }
+
+pub created_new : {D : Type 0} (meaning : D → Meaning) (new : Devices D) (version : ℕ) (closed : List ℕ) → IsUnmade closed → IsSure (meaning new.second) closed → IsSureOf (meaning new.first) version 1 [] → IsNewPair meaning new version
+created_new meaning new version closed unmade sure made = record {
+  first = made.file;
+  second = closed;
+  first_sure = made.sure;
+  second_sure = sure;
+  journal = made.loads;
+  unmade = unmade;
+}
 
 -- what holds of both files that devices tell
 pub if_both : {D : Type 0} (meaning : D → Meaning) (devices : Devices D) (P : List ℕ → List ℕ → Type 0) → ((a b : List ℕ) → (meaning devices.first).held ≡ Some a → (meaning devices.second).held ≡ Some b → P a b) → IfBoth meaning devices P

@@ -1,5 +1,5 @@
 -- What two journal files stand for together.
-use Rattle.std.specs.Prelude.{◌≡◌, if◌then◌else◌, nat_lt, ℕ, Bool, false, List, length, IfSome}
+use Rattle.std.specs.Prelude.{◌≡◌, if◌then◌else◌, nat_lt, ℕ, Bool, false, List, [], length, IfSome}
 use Rattle.ddc_disk.specs.Disk.{Meaning, IsCalm, IsImage, IsSure, EachSince}
 use Rattle.ddc_disk.specs.Images.{devices_line}
 use Rattle.ddc_disk.specs.declared.devices.Devices.{Devices}
@@ -58,6 +58,16 @@ pub record IsPairReady {D : Type 0} (meaning : D → Meaning) (devices : Devices
   pub first_sure : IsSure (meaning devices.first) first
   pub second_sure : IsSure (meaning devices.second) second
   pub opened : IsOpenPair first second pair bodies
+
+-- both disks are sure of files: the first is an empty journal of this version and of the generation 1, and the second
+-- isn't made
+pub record IsNewPair {D : Type 0} (meaning : D → Meaning) (devices : Devices D) (version : ℕ) : Type 0 where
+  pub first : List ℕ
+  pub second : List ℕ
+  pub first_sure : IsSure (meaning devices.first) first
+  pub second_sure : IsSure (meaning devices.second) second
+  pub journal : IsJournal version 1 [] first
+  pub unmade : is_made second ≡ false
 
 -- nothing was written: the disks hold what they held, and no crash leaves anything new
 pub record Looks (old new : Meaning) : Type 0 where

@@ -1,3 +1,4 @@
 pub mod Closing
 pub mod Scanning
+pub mod Reads
 pub mod PairFiles

@@ -12,6 +12,12 @@ pub(crate) const GATE: u64 = 20;
 // The place of the first item's gate.
 pub(crate) const FRONT: u64 = 21;
 
+// How many bytes stand in front of a body: its gate and its length.
+pub(crate) const ITEM_HEAD: u64 = 5;
+
+// How many bytes an item has at least, with the gate after it.
+pub(crate) const LEAST_ITEM: u64 = ITEM_HEAD + 1;
+
 // The version of a journal that stands alone.
 pub(crate) const SINGLE_VERSION: u32 = 0;
 

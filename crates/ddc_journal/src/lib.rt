@@ -14,6 +14,7 @@ mod laws;
 mod load;
 pub mod pair;
 mod parse;
+mod window;
 
 pub use fault::JournalFault;
 pub use framed::Framed;

@@ -6,36 +6,23 @@ ghost use Rattle.ddc_disk.specs.Disk.{EachSince, IsCalm, IsImage};
 ghost use Rattle.ddc_journal.specs.Journal.{generation_in, IsReady};
 ghost use Rattle.ddc_journal.specs.Faults.{FaultOf, FileFault, LoadsAs};
 ghost use Rattle.ddc_journal.specs.inside.Scanning.{IsScan};
-ghost use Rattle.ddc_journal.specs.declared.fault.JournalFault.TheVariants.{DiskFailed, NoMemory};
+ghost use Rattle.ddc_journal.specs.declared.fault.JournalFault.TheVariants.{DiskFailed};
 
-use crate::kind::{FileKind, single};
-use crate::parse::{Scan, scan_bytes};
+use crate::kind::{FRONT, FileKind, single};
+use crate::parse::open_items;
+use crate::window::{read_items, read_piece};
 use crate::{Journal, JournalFault};
 use ddc_disk::Disk;
 use ddc_names::{ByteList, Rows};
 use std::alloc::Global;
 
-// All bytes of a disk.
-fn read_all<D: Disk>(alloc: Global, disk: &mut D) -> Result<Vec<u8>, JournalFault>
-    ensures bytes { IfOk result (λ bytes. IfSome (D.meaning disk.old).held (λ file. bytes.items ≡ file)) }
-    ensures fault { IfErr result (λ fault. ((fault ≡ DiskFailed) × Rose (D.meaning disk.old).faults (D.meaning disk.new).faults) ⊎ (fault ≡ NoMemory)) }
-    ensures same { OnOk result ((D.meaning disk.old).faults ≡ (D.meaning disk.new).faults) }
-    ensures later { (D.meaning disk.old).faults ≤ (D.meaning disk.new).faults }
-    ensures held { (D.meaning disk.new).held ≡ (D.meaning disk.old).held }
-    ensures calm { IsCalm (D.meaning disk.old).line (D.meaning disk.new).line }
-    ensures past { EachSince (D.meaning disk.old).line (D.meaning disk.new).line (IsImage (D.meaning disk.old).line) }
-{
-    let Ok(length) = disk.len() else {
-        return Err(JournalFault::DiskFailed);
-    };
-    let mut bytes = Vec::new(alloc);
-    if bytes.resize(length as usize, 0).is_err() {
-        return Err(JournalFault::NoMemory);
-    }
-    if disk.read(0, &mut bytes).is_err() {
-        return Err(JournalFault::DiskFailed);
-    }
-    Ok(bytes)
+// A journal that was read: what its head names, its bodies, and the place of its closing gate.
+#[derive(Drop)]
+pub(crate) struct Scan {
+    pub(crate) version: u32,
+    pub(crate) generation: u64,
+    pub(crate) bodies: Rows<ByteList>,
+    pub(crate) end: u64,
 }
 
 // The journal that a disk holds.
@@ -53,12 +40,24 @@ pub(crate) fn scan_disk<D: Disk>(
     ensures calm { IsCalm (D.meaning disk.old).line (D.meaning disk.new).line }
     ensures past { EachSince (D.meaning disk.old).line (D.meaning disk.new).line (IsImage (D.meaning disk.old).line) }
 {
-    let bytes = match read_all(alloc, disk) {
-        Ok(bytes) => bytes,
+    let Ok(size) = disk.len() else {
+        return Err(JournalFault::DiskFailed);
+    };
+    let front = match read_piece(alloc, disk, 0, size.min(FRONT + 1)) {
+        Ok(front) => front,
         Err(fault) => return Err(fault),
     };
-    match scan_bytes(alloc, &bytes, kind) {
-        Ok(scan) => Ok(scan),
+    let head = match open_items(&front, kind) {
+        Ok(head) => head,
+        Err(fault) => return Err(fault),
+    };
+    match read_items(alloc, disk, size, kind.number) {
+        Ok(walk) => Ok(Scan {
+            version: head.version,
+            generation: head.generation,
+            bodies: walk.bodies,
+            end: walk.at,
+        }),
         Err(fault) => Err(fault),
     }
 }
@@ -70,7 +69,7 @@ impl Journal {
     /// # Errors
     ///
     /// `NotMade`, `Corrupt` and `BadVersion` exactly by the bytes that the disk holds, `DiskFailed`
-    /// where the disk failed, and `NoMemory` where there is none for the file or its bodies.
+    /// where the disk failed, and `NoMemory` where there is none for a piece of the file or its bodies.
     pub fn load<D: Disk>(
         alloc: Global,
         disk: &mut D,

@@ -1,13 +1,12 @@
-//! The bytes of a file, read as a journal.
+//! Bytes of a file, read as those of a journal.
 
-ghost use Rattle.std.specs.Prelude.{◌≡◌, ◌<◌, ◌≤◌, ◌^◌, ◌++◌, ◌∷◌, [], length, take, drop, slice_index, IfErr, IfNone, IfOk, IfSome, OnErr, OnOk};
+ghost use Rattle.std.specs.Prelude.{◌≡◌, ◌<◌, ◌≤◌, ◌+◌, ◌^◌, ◌++◌, ◌∷◌, [], length, take, drop, slice_index, IfErr, IfNone, IfOk, IfSome, OnErr, OnOk};
 ghost use Rattle.std.specs.Int.{from_le_bytes, to_le_bytes, w32, w64};
 ghost use Rattle.ddc_journal.specs.Journal.{magic, framed, head_bytes, version_in, generation_in, rank};
-ghost use Rattle.ddc_journal.specs.Faults.{FileFault, LacksItem};
-ghost use Rattle.ddc_journal.specs.inside.Scanning.{EndsAt, IsOpen, IsScan, ItemFault};
+ghost use Rattle.ddc_journal.specs.inside.Scanning.{HeadFault, IsOpen, NeedsAt, TakesItems};
 
 use crate::JournalFault;
-use crate::kind::{FRONT, FileKind, GATE, MAGIC};
+use crate::kind::{FileKind, GATE, LEAST_ITEM, MAGIC};
 use ddc_names::{ByteList, NoMemory, Rows};
 use std::alloc::Global;
 
@@ -29,10 +28,10 @@ fn long_number(bytes: [u8; 8]) -> u64
 
 // What stands before the items, and they.
 #[derive(Clone, Copy)]
-struct Head<'a> {
+pub(crate) struct Head<'a> {
     magic: &'a [u8; 8],
-    version: u32,
-    generation: u64,
+    pub(crate) version: u32,
+    pub(crate) generation: u64,
     gate: u8,
     items: &'a [u8],
 }
@@ -79,12 +78,14 @@ pub(crate) fn rank_in(front: &[u8]) -> u64
     }
 }
 
-// The head of a journal, where it is as it should be.
-fn open_items(bytes: &[u8], kind: FileKind) -> Result<Head<'_>, JournalFault>
+// The head of a journal, where it is as it should be. The bytes go up to the first item's gate, or to
+// the file's end.
+pub(crate) fn open_items(bytes: &[u8], kind: FileKind) -> Result<Head<'_>, JournalFault>
     ensures items { IfOk result (λ head. IsOpen kind bytes.now head.items.now) }
+    ensures long { IfOk result (λ _. 21 < length bytes.now) }
     ensures version { IfOk result (λ head. head.version ≡ version_in bytes.now) }
     ensures generation { IfOk result (λ head. head.generation ≡ generation_in bytes.now) }
-    ensures fault { IfErr result (λ fault. FileFault kind bytes.now fault) }
+    ensures fault { IfErr result (λ fault. HeadFault kind bytes.now fault) }
 {
     let Some(head) = split_head(bytes) else {
         return Err(JournalFault::NotMade);
@@ -106,20 +107,22 @@ fn open_items(bytes: &[u8], kind: FileKind) -> Result<Head<'_>, JournalFault>
     Ok(head)
 }
 
-// A length, a body of that length, and at least one byte more.
-fn split_item(after: &[u8]) -> Option<(&[u8], &[u8])>
-    ensures item { IfSome result (λ r. after.now ≡ framed r.0.now ++ r.1.now) }
-    ensures sized { IfSome result (λ r. (length r.0.now < 2 ^ 32) × (0 < length r.1.now) × (length r.1.now < length after.now)) }
-    ensures none { IfNone result (LacksItem (1 ∷ after.now)) }
+// A length, a body of that length, and at least one byte more. Where they aren't there: how many bytes
+// they need, with the gate in front.
+fn split_item(after: &[u8]) -> Result<(&[u8], &[u8]), u64>
+    ensures item { IfOk result (λ r. after.now ≡ framed r.0.now ++ r.1.now) }
+    ensures sized { IfOk result (λ r. (length r.0.now < 2 ^ 32) × (0 < length r.1.now) × (length r.1.now < length after.now)) }
+    ensures needs { IfErr result (λ need. NeedsAt need (1 ∷ after.now)) }
+    ensures is_cut { IfErr result (λ need. length after.now + 1 < need) }
 {
-    let Some((length, tail)) = after.split_first_chunk::<4>() else {
-        return None;
+    let Some((size, tail)) = after.split_first_chunk::<4>() else {
+        return Err(LEAST_ITEM);
     };
-    let length = short_number(*length) as usize;
-    if tail.len() <= length {
-        return None;
+    let size = short_number(*size);
+    if tail.len() <= size as usize {
+        return Err(LEAST_ITEM + size as u64);
     }
-    Some(tail.split_at(length))
+    Ok(tail.split_at(size as usize))
 }
 
 fn add_body(alloc: Global, bodies: &mut Rows<ByteList>, body: &[u8]) -> Result<(), NoMemory>
@@ -130,57 +133,35 @@ fn add_body(alloc: Global, bodies: &mut Rows<ByteList>, body: &[u8]) -> Result<(
     bodies.push(Rows::of_vec(copy))
 }
 
-// The bodies after open gates, and the place of the closing gate.
-fn read_items(
+// Why no more items are taken from a piece.
+#[derive(Clone, Copy)]
+pub(crate) enum Stop {
+    // A gate that isn't open.
+    Closed,
+    // An item that isn't whole there. It needs so many bytes with the gate after it, or more where its
+    // length isn't whole either.
+    Lacks(u64),
+}
+
+// Adds the bodies of the whole items at the front of a piece. Gives how many bytes those have, and what
+// stands after them.
+pub(crate) fn take_items(
     alloc: Global,
-    items: &[u8],
-    number: u8,
-) -> Result<(Rows<ByteList>, u64), JournalFault>
-    requires { 0 < length items.now }
-    ensures ends { IfOk result (λ r. EndsAt r.0 r.1 items.now) }
-    ensures fault { IfErr result (λ fault. ItemFault number items.now fault) }
+    piece: &[u8],
+    bodies: &mut Rows<ByteList>,
+) -> Result<(usize, Stop), NoMemory>
+    requires { 0 < length piece.now }
+    ensures { IfOk result (λ r. TakesItems bodies.old bodies.new piece.now r.0 r.1) }
 {
-    let mut bodies = Rows::new(alloc);
-    let mut rest = items;
+    let mut rest = piece;
     while let [1, after @ ..] = rest {
-        let Some((body, tail)) = split_item(after) else {
-            let at = FRONT + (items.len() - rest.len()) as u64;
-            return Err(JournalFault::Corrupt { file: number, at });
-        };
-        if add_body(alloc, &mut bodies, body).is_err() {
-            return Err(JournalFault::NoMemory);
+        match split_item(after) {
+            Ok((body, tail)) => {
+                add_body(alloc, bodies, body)?;
+                rest = tail;
+            }
+            Err(need) => return Ok((piece.len() - rest.len(), Stop::Lacks(need))),
         }
-        rest = tail;
     }
-    Ok((bodies, FRONT + (items.len() - rest.len()) as u64))
-}
-
-// A journal that was read: what its head names, its bodies, and the place of its closing gate.
-#[derive(Drop)]
-pub(crate) struct Scan {
-    pub(crate) version: u32,
-    pub(crate) generation: u64,
-    pub(crate) bodies: Rows<ByteList>,
-    pub(crate) end: u64,
-}
-
-// The journal that a file of this kind is.
-pub(crate) fn scan_bytes(alloc: Global, bytes: &[u8], kind: FileKind) -> Result<Scan, JournalFault>
-    ensures loads { IfOk result (λ scan. IsScan kind bytes.now scan.version scan.generation scan.bodies scan.end) }
-    ensures fault { IfErr result (λ fault. FileFault kind bytes.now fault) }
-{
-    let head = match open_items(bytes, kind) {
-        Ok(head) => head,
-        Err(fault) => return Err(fault),
-    };
-    let (bodies, end) = match read_items(alloc, head.items, kind.number) {
-        Ok(read) => read,
-        Err(fault) => return Err(fault),
-    };
-    Ok(Scan {
-        version: head.version,
-        generation: head.generation,
-        bodies,
-        end,
-    })
+    Ok((piece.len() - rest.len(), Stop::Closed))
 }

@@ -4,6 +4,7 @@ ghost use Rattle.std.specs.Prelude.{◌≡◌, ◌≤◌, ◌^◌, [], false, Is
 ghost use Rattle.ddc_names.specs.Causes.{HasCause, Rose};
 ghost use Rattle.ddc_disk.specs.Images.{devices_faults};
 ghost use Rattle.ddc_journal.specs.Journal.{front_size};
+ghost use Rattle.ddc_journal.specs.Pairs.{IsNewPair};
 ghost use Rattle.ddc_model.specs.State.{empty_state};
 ghost use Rattle.ddc_opening.specs.Opening.{version};
 ghost use Rattle.ddc_opening.specs.Loading.{Creates, IsOpenStore, IsReady};
@@ -22,6 +23,7 @@ use std::alloc::Global;
 fn make_pair<D: Disk>(devices: &mut HeldDevices<D>, limits: Limits) -> Result<Pair, Failed>
     ensures creates { Creates D.meaning devices.old limits devices.new }
     ensures ready { IfOk result (λ pair. IsTrue D.tells → IsReady D.meaning devices.new pair []) }
+    ensures fresh { IfOk result (λ _. IsTrue D.tells → IsNewPair D.meaning devices.new version) }
     ensures pair { IfOk result (λ pair. pair ≡ record { second = false; version = version; generation = 1; end = front_size }) }
     ensures cause { HasCause (devices_faults D.meaning devices.old) (devices_faults D.meaning devices.new) result }
 {
@@ -49,6 +51,7 @@ pub fn create_store<D: Disk>(
     ensures opened { IfOk result (λ store. IsOpenStore D.tells D.meaning devices.new limits store.pair store.index.state store.steps.items) }
     ensures empty { IfOk result (λ store. store.index.state ≡ empty_state limits) }
     ensures no_steps { IfOk result (λ store. store.steps.items ≡ []) }
+    ensures fresh { IfOk result (λ _. IsTrue D.tells → IsNewPair D.meaning devices.new version) }
     ensures pair { IfOk result (λ store. store.pair ≡ record { second = false; version = version; generation = 1; end = front_size }) }
     ensures any_moment { Creates D.meaning devices.old limits devices.new }
     ensures fault { IfErr result (λ fault. (fault ≡ OpenFault.DiskFailed) × Rose (devices_faults D.meaning devices.old) (devices_faults D.meaning devices.new)) }

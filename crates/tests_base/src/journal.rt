@@ -1,6 +1,6 @@
 //! Each public call once, against bytes written by hand. All other cases are lines of `case_journal`.
 
-ghost use Rattle.std.specs.Prelude.{◌≡◌, ◌∷◌, [], IfOk};
+ghost use Rattle.std.specs.Prelude.{◌≡◌, ◌∷◌, ◌<◌, ◌^◌, [], IfOk};
 
 use ddc_disk::{Devices, Disk, FileDisk, HeldDevices, MemDisk};
 use ddc_journal::pair::{self, Pair};
@@ -74,6 +74,62 @@ fn a_journal_on_a_file_gives_its_bodies_back(rt: HostRuntime) -> Result<(), Fail
     assert!(rt; loads_one(rt.alloc(), &mut again));
     fs::remove_dir_all(&rt, folder)?;
     Ok(())
+}
+
+// Appends a body of so many bytes 7.
+fn append_sevens(alloc: Global, disk: &mut MemDisk, journal: &mut Journal, count: usize) -> bool
+    requires { count < 2 ^ 31 }
+{
+    let mut body = Vec::new(alloc);
+    if body.resize(count, 7).is_err() {
+        return false;
+    }
+    match Framed::new(alloc, &body) {
+        Ok(item) => journal.append(disk, &item).is_ok(),
+        Err(NoMemory) => false,
+    }
+}
+
+// A journal of two bodies, of so many bytes 7.
+fn two_bodies(alloc: Global, disk: &mut MemDisk, first: usize, second: usize) -> bool
+    requires first { first < 2 ^ 31 }
+    requires second { second < 2 ^ 31 }
+{
+    match Journal::create(disk, 1) {
+        Ok(mut journal) => {
+            append_sevens(alloc, disk, &mut journal, first)
+                && append_sevens(alloc, disk, &mut journal, second)
+        }
+        Err(_) => false,
+    }
+}
+
+fn are_sevens(body: &ByteList, count: usize) -> bool {
+    body.len() == count && body.as_slice().iter().all(|byte| *byte == 7)
+}
+
+fn loads_two(alloc: Global, disk: &mut MemDisk, first: usize, second: usize) -> bool {
+    match Journal::load(alloc, disk) {
+        Ok((_, bodies)) => match bodies.as_slice() {
+            [one, two] => are_sevens(one, first) && are_sevens(two, second),
+            _ => false,
+        },
+        Err(_) => false,
+    }
+}
+
+#[test]
+fn an_item_across_two_windows_is_loaded(rt: HostRuntime) {
+    let mut disk = empty_disk(rt.alloc());
+    assert!(rt; two_bodies(rt.alloc(), &mut disk, 65000, 1000));
+    assert!(rt; loads_two(rt.alloc(), &mut disk, 65000, 1000));
+}
+
+#[test]
+fn an_item_longer_than_a_window_is_loaded(rt: HostRuntime) {
+    let mut disk = empty_disk(rt.alloc());
+    assert!(rt; two_bodies(rt.alloc(), &mut disk, 70000, 3));
+    assert!(rt; loads_two(rt.alloc(), &mut disk, 70000, 3));
 }
 
 fn made_pair(alloc: Global, held: &mut HeldDevices<MemDisk>) -> Option<Pair> {

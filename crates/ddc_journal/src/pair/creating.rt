@@ -5,7 +5,7 @@ ghost use Rattle.ddc_names.specs.Causes.{HasCause};
 ghost use Rattle.ddc_disk.specs.Disk.{EachSince, IsImage};
 ghost use Rattle.ddc_disk.specs.Images.{devices_faults, devices_line};
 ghost use Rattle.ddc_journal.specs.Journal.{front_size};
-ghost use Rattle.ddc_journal.specs.Pairs.{IfBoth, IsPairOf, IsPairReady, NoneMade};
+ghost use Rattle.ddc_journal.specs.Pairs.{IfBoth, IsNewPair, IsPairOf, IsPairReady, NoneMade};
 ghost use Rattle.ddc_journal.specs.inside.PairFiles.{created};
 ghost use Rattle.ddc_journal.specs.declared.fault.JournalFault.TheVariants.{DiskFailed};
 
@@ -23,6 +23,7 @@ const FIRST: u64 = 1;
 fn make<D: Disk>(devices: &mut HeldDevices<D>, version: u32) -> Result<(), Failed>
     ensures any_moment { IfBoth D.meaning devices.old (λ a b. NoneMade a b → EachSince (devices_line D.meaning devices.old) (devices_line D.meaning devices.new) (λ im. IsImage (devices_line D.meaning devices.old) im ⊎ (NoneMade im.first im.second ⊎ IsPairOf version [] im.first im.second))) }
     ensures ready { OnOk result (IfBoth D.meaning devices.old (λ _ _. IsPairReady D.meaning devices.new (created version) [])) }
+    ensures fresh { OnOk result (IfBoth D.meaning devices.old (λ _ _. IsNewPair D.meaning devices.new version)) }
     ensures past { EachSince (devices_line D.meaning devices.old) (devices_line D.meaning devices.new) (λ _. Unit {0}) }
     ensures blobs { devices.new.blobs ≡ devices.old.blobs }
     ensures cause { HasCause (devices_faults D.meaning devices.old) (devices_faults D.meaning devices.new) result }
@@ -34,7 +35,8 @@ fn make<D: Disk>(devices: &mut HeldDevices<D>, version: u32) -> Result<(), Faile
 }
 
 /// Makes an empty pair over whatever the two files held: it syncs both, closes the second, and makes a
-/// journal of the generation 1 in the first. The version is at least 1.
+/// journal of the generation 1 in the first. The version is at least 1. The second file isn't made then,
+/// whatever it held.
 ///
 /// # Errors
 ///
@@ -43,6 +45,7 @@ pub fn create<D: Disk>(devices: &mut HeldDevices<D>, version: u32) -> Result<Pai
     requires { 1 ≤ version }
     ensures any_moment { IfBoth D.meaning devices.old (λ a b. NoneMade a b → EachSince (devices_line D.meaning devices.old) (devices_line D.meaning devices.new) (λ im. IsImage (devices_line D.meaning devices.old) im ⊎ (NoneMade im.first im.second ⊎ IsPairOf version [] im.first im.second))) }
     ensures ready { IfOk result (λ pair. IfBoth D.meaning devices.old (λ _ _. IsPairReady D.meaning devices.new pair [])) }
+    ensures fresh { OnOk result (IfBoth D.meaning devices.old (λ _ _. IsNewPair D.meaning devices.new version)) }
     ensures pair { IfOk result (λ pair. pair ≡ record { second = false; version = version; generation = 1; end = front_size }) }
     ensures past { EachSince (devices_line D.meaning devices.old) (devices_line D.meaning devices.new) (λ _. Unit {0}) }
     ensures blobs { devices.new.blobs ≡ devices.old.blobs }

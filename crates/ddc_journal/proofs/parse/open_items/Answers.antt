@@ -1,4 +1,4 @@
-use Rattle.std.proofs.Common.{rules, ◌≡◌, ◌≢◌, ◌∙◌, ap, subst, sym, take, ℕ, arith, length, length-drop, refl, inl, inr}
+use Rattle.std.proofs.Common.{rules, ◌≡◌, ◌≢◌, ◌<◌, ◌∙◌, ap, subst, sym, take, ℕ, arith, length, length-drop, refl, inl, inr}
 use Rattle.std.specs.Prelude.{slice_index}
 use Rattle.ddc_journal.specs.Journal.{magic, version_in, generation_in}
 use Rattle.ddc_journal.specs.Faults.{IsKnown}
@@ -14,7 +14,7 @@ returns-then-is_empty-clause-fault c =
     let known : IsKnown c.args.kind (version_in b) = (omega (arith, c.in-Some.ensures.version, c.if-found-kind.false), omega (arith, c.in-Some.ensures.version, c.if-found-kind-2.false)) in
     let first : take 8 b ≡ magic = sym c.in-Some.ensures.magic ∙ search rules in
     let none : length c.in-Some.head.items.now ≡ 0 = search rules in
-    (made b one numbered, refl, inr (inl (refl, (first, known), omega (arith, none, ap length c.in-Some.ensures.items, length-drop 21 b, c.in-Some.ensures.long))))
+    (made b one numbered, refl, inr (refl, (first, known), omega (arith, none, ap length c.in-Some.ensures.items, length-drop 21 b, c.in-Some.ensures.long)))
 
 pub returns-clause-items : goal.returns-clause-items
 returns-clause-items c =
@@ -30,3 +30,8 @@ returns-clause-items c =
       numbered = (omega (arith, numbered, c.in-Some.ensures.generation), omega (arith, c.in-Some.ensures.fits, c.in-Some.ensures.generation));
       some = search rules;
     }
+
+pub returns-clause-long : goal.returns-clause-long
+returns-clause-long c =
+    let some : 0 < length c.in-Some.head.items.now = search rules in
+    omega (arith, some, ap length c.in-Some.ensures.items, length-drop 21 c.args.bytes.now)

@@ -1,7 +1,8 @@
 use Rattle.std.proofs.Common.{[], sym, ap, subst}
 use Rattle.ddc_disk.specs.Disk.{IsSure}
 use Rattle.ddc_disk.specs.Told.{told_file, at_told}
-use Rattle.ddc_journal.specs.Pairs.{PairView, IsPairReady}
+use Rattle.ddc_journal.specs.Pairs.{PairView, IsNewPair, IsPairReady}
+use Rattle.ddc_opening.specs.Opening.{version}
 use Rattle.ddc_opening.proofs.Both.{of_told}
 use Rattle.ddc_opening.proofs.Creating.{creates}
 use Rattle.ddc_opening.proofs.create.make_pair.Goals as goal
@@ -32,3 +33,10 @@ returns-in-Ok-clause-ready g c tell =
       file = blobs.0;
       blobs_sure = subst (λ d. IsSure (m d) blobs.0) (sym c.in-Ok.ensures.blobs) sure;
     }
+
+pub returns-in-Ok-clause-fresh : goal.returns-in-Ok-clause-fresh
+returns-in-Ok-clause-fresh g c tell =
+    let m = g.D.Disk.meaning in
+    let told = g.met.D.Disk.told in
+    let mid = c.sync_blobs.new.devices in
+    of_told m mid (IsNewPair m c.create.new.devices version) (told mid.first tell) (told mid.second tell) c.in-Ok.ensures.fresh

@@ -5,7 +5,7 @@ use Rattle.ddc_disk.specs.Since.{then_runs, weaker}
 use Rattle.ddc_journal.specs.Pairs.{IsPairOf, NoneMade}
 use Rattle.ddc_journal.specs.inside.Closing.{AreItems}
 use Rattle.ddc_journal.proofs.Making.{at_gate}
-use Rattle.ddc_journal.proofs.Pairing.{at_both, closing_none, created_ready, if_both, making_none}
+use Rattle.ddc_journal.proofs.Pairing.{at_both, closing_none, created_new, created_ready, if_both, making_none}
 use Rattle.ddc_journal.proofs.pair.creating.make.Goals as goal
 
 none_yet : AreItems 1 [] (0 ∷ [])
@@ -70,3 +70,18 @@ returns-clause-ready g c = if_both g.D.Disk.meaning c.args.devices.now _ (λ a b
     let kept : IsSure (m near.first) a = subst (λ d. IsSure (m d) a) (sym c.close_second.ensures.first) sure.0 in
     let still : IsSure (m new.second) file = subst (λ d. IsSure (m d) file) (sym c.remake_file.ensures.other) closed.sure in
     created_ready m new c.args.version file unmade still (c.in_ok-remake_file.ensures.made a [] kept none_yet))
+
+pub returns-clause-fresh : goal.returns-clause-fresh
+returns-clause-fresh g c = if_both g.D.Disk.meaning c.args.devices.now _ (λ a b is_a is_b.
+    let m = g.D.Disk.meaning in
+    let old = c.args.devices.now in
+    let mid = c.sync_both.new.devices in
+    let near = c.close_second.new.devices in
+    let new = c.remake_file.new.devices in
+    let sure = at_both m old (λ first second. IsSure (m mid.first) first × IsSure (m mid.second) second) a b is_a is_b c.in_ok-sync_both.ensures.sure in
+    let closed = c.in_ok-close_second.ensures.closed b sure.1 in
+    let file = closed.front ++ closed.gate ∷ closed.rest in
+    let unmade = at_gate closed.front closed.rest closed.gate closed.size closed.closed in
+    let kept : IsSure (m near.first) a = subst (λ d. IsSure (m d) a) (sym c.close_second.ensures.first) sure.0 in
+    let still : IsSure (m new.second) file = subst (λ d. IsSure (m d) file) (sym c.remake_file.ensures.other) closed.sure in
+    created_new m new c.args.version file unmade still (c.in_ok-remake_file.ensures.made a [] kept none_yet))
