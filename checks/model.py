@@ -368,10 +368,38 @@ def spelled_row(named, length, start, links):
     return named + eight(length) + eight(start) + four(len(links)) + spelled
 
 
+KINDS = ('space', 'upload', 'repin', 'put', 'finalise', 'delete', 'touch', 'expire', 'swept', 'cursor', 'base_hour', 'base_slot', 'base_event')
+BY_SPACE = 'space', 'upload', 'repin', 'expire', 'swept', 'cursor'
+BY_NAME = 'put', 'finalise', 'delete', 'touch', 'base_slot'
+WITH_HOUR = 'upload', 'repin', 'put', 'finalise', 'delete', 'touch', 'expire', 'base_hour'
+
+
+def spelled_spot(spot):
+    return spelled_text(spot[0]) + spot[1]
+
+
+def spelled_option(data):
+    return b'\x00' if data is None else b'\x01' + data
+
+
 def spelled_entry(kind, *fields):
     """The body of an entry of a kind with its fields, as a reader gives them."""
-    front = bytes([('space', 'upload', 'repin', 'put', 'finalise', 'delete', 'touch').index(kind) + 1])
-    front += spelled_text(fields[0]) if kind in ('space', 'upload', 'repin') else spelled_name(fields[0])
+    front = bytes([KINDS.index(kind) + 1])
+    front += spelled_text(fields[0]) if kind in BY_SPACE else spelled_name(fields[0]) if kind in BY_NAME else b''
+    if kind == 'expire':
+        return front + bytes([len(fields[1])]) + b''.join(map(spelled_spot, fields[1])) + four(fields[2])
+    if kind == 'swept':
+        return front + bytes([len(fields[1])]) + b''.join(fields[1])
+    if kind == 'cursor':
+        _, walking, after, top, spot = fields
+        return front + bytes([walking]) + eight(after) + eight(top) + spelled_option(spot and spelled_spot(spot))
+    if kind == 'base_hour':
+        return front + four(fields[0])
+    if kind == 'base_slot':
+        return front + spelled_option(fields[1]) + spelled_option(fields[2]) + four(fields[3])
+    if kind == 'base_event':
+        (space, *spot), number, added = fields
+        return front + spelled_text(space) + eight(number) + spelled_spot(spot) + (b'\x01' if added is None else b'\x00' + added)
     if kind == 'space':
         return front + four(fields[1]) + four(fields[2])
     if kind == 'upload':
@@ -383,7 +411,8 @@ def spelled_entry(kind, *fields):
 
 
 def space_of(entry):
-    return entry[1] if entry[0] in ('space', 'upload', 'repin') else entry[1][0]
+    """The namespace of an entry; a state's hour has none."""
+    return None if entry[0] == 'base_hour' else entry[1] if entry[0] in BY_SPACE else entry[1][0]
 
 
 def fresh_of(entry):
@@ -416,8 +445,11 @@ class Reader:
             raise NoEntry
         return text
 
+    def spot(self):
+        return self.text(), self.take(20)
+
     def name(self):
-        return self.text(), self.text(), self.take(20)
+        return (self.text(), *self.spot())
 
     def flag(self):
         flag = self.number(1)
@@ -431,9 +463,42 @@ class Reader:
             raise NoEntry
         return named, length, start, [(self.flag() == 0, self.take(20)) for _ in range(count)]
 
+    def option(self, take):
+        return take() if self.flag() else None
+
+    def several(self, take):
+        count = self.number(1)
+        if not 1 <= count <= 64:
+            raise NoEntry
+        return [take() for _ in range(count)]
+
+    def hash(self):
+        return self.take(20)
+
+    def event(self):
+        """The name, the number, and the object that is added, or None where one is taken away."""
+        space, number, spot = self.text(), self.number(8), self.spot()
+        return (space, *spot), number, None if self.flag() else self.take(20)
+
     def entry(self):
         """The entry at the front, as its kind and its fields."""
         kind = self.number(1)
+        if kind == 8:
+            return 'expire', self.text(), self.several(self.spot), self.number(4)
+        if kind == 9:
+            return 'swept', self.text(), self.several(self.hash)
+        if kind == 10:
+            return 'cursor', self.text(), self.flag(), self.number(8), self.number(8), self.option(self.spot)
+        if kind == 11:
+            return 'base_hour', self.number(4)
+        if kind == 12:
+            return 'base_slot', self.name(), self.option(self.hash), self.option(self.hash), self.number(4)
+        if kind == 13:
+            return ('base_event', *self.event())
+        return self.change(kind)
+
+    def change(self, kind):
+        """The fields of an entry that a command makes."""
         if kind == 1:
             return 'space', self.text(), self.number(4), self.number(4)
         if kind == 2:
@@ -478,30 +543,57 @@ def rank(data):
     return int.from_bytes(data[12:20], 'little') if data[20:21] == b'\x01' else 0
 
 
-def item_bodies(data, number=0):
-    """The bodies of the journal file of this number, with the places of their gates."""
-    if rank(data) == 0:
+WINDOW = 65536
+
+
+def open_head(front, number):
+    """Refuses the front of a journal file, which goes up to its first item's gate."""
+    if rank(front) == 0:
         raise Unopened('not made')
-    if data[:8] != MAGIC:
+    if front[:8] != MAGIC:
         raise Unopened('corrupt file %d at 0' % number)
-    if data[8:12] != four(VERSION):
-        raise Unopened('version %d' % int.from_bytes(data[8:12], 'little'))
-    if len(data) < 22:
+    if front[8:12] != four(VERSION):
+        raise Unopened('version %d' % int.from_bytes(front[8:12], 'little'))
+    if len(front) < 22:
         raise Unopened('corrupt file %d at 20' % number)
-    at, bodies = 21, []
-    while data[at] == 1:
-        end = at + 5 + int.from_bytes(data[at + 1:at + 5], 'little')
-        if len(data) < at + 5 or len(data) <= end:
+
+
+def whole_items(window, at):
+    """The whole items at the front of a window from a place on, the place after them, and how many bytes the next one
+    needs with the gate behind it, or None where no item comes."""
+    items, place = [], 0
+    while window[place] == 1:
+        size = window[place + 1:place + 5]
+        need = 6 + (int.from_bytes(size, 'little') if len(size) == 4 else 0)
+        if place + need > len(window):
+            return items, at + place, need
+        items.append((at + place, window[place + 5:place + need - 1]))
+        place += need - 1
+    return items, at + place, None
+
+
+def item_bodies(disk, number=0):
+    """The bodies of the journal file of this number, with the places of their gates. They are read a window at a time; of
+    an item that is longer than a window the body is read by itself."""
+    length = disk.length()
+    open_head(disk.read(0, min(22, length)), number)
+    bodies, at = [], 21
+    while True:
+        items, at, need = whole_items(disk.read(at, min(WINDOW, length - at)), at)
+        bodies += items
+        if need is None:
+            return bodies
+        if length - at < need:
             raise Unopened('corrupt file %d at %d' % (number, at))
-        bodies.append((at, data[at + 5:end]))
-        at = end
-    return bodies
+        if need > WINDOW:
+            bodies.append((at, disk.read(at + 5, need - 6)))
+            at += need - 1
 
 
 # ---- a state, and what entries do to it
 
-MOST = {'spaces': 64, 'blobs': 2097152, 'refs': 1048576, 'links': 16777216, 'units': 268435456, 'entries': 4194304,
-        'entry_links': 16777216}
+MOST = {'spaces': 64, 'blobs': 2097152, 'refs': 1048576, 'links': 16777216, 'units': 268435456, 'kept': 16384,
+        'entries': 4194304, 'entry_links': 16777216}
 MOST_BYTES, MOST_LINKS = 67108864, 4194304
 
 
@@ -529,11 +621,46 @@ class Slot:
         self.done, self.pending, self.seen = done, pending, seen
 
 
+class Log:
+    """The number of a namespace's last event, and the events that are kept, oldest first: the number, the reference, and the
+    object that it serves from then on, or None where it serves none."""
+
+    def __init__(self):
+        self.last, self.events = 0, []
+
+    def can_follow(self, number):
+        return number == self.last + 1 or not self.events and number >= 1
+
+    def append(self, number, spot, added, kept):
+        self.last, self.events = number, (self.events + [(number, spot, added)])[-kept:]
+
+    def oldest(self):
+        """The number of the oldest event that is kept, or of the next one."""
+        return self.events[0][0] if self.events else self.last + 1
+
+    def after(self, number, count):
+        return [event for event in self.events if event[0] > number][:count]
+
+
+def ascend(names):
+    return all(one < other for one, other in zip(names, names[1:]))
+
+
 class State:
-    """Namespaces, blobs by namespace and hash, references with their finalised and pending objects, and the hour."""
+    """Namespaces, blobs by namespace and hash, references with their finalised and pending objects, the hour, and by
+    namespace its log of events and how far a follower has come: whether it goes through pages, the number of the last event,
+    the greatest number of a page, and the reference after which the next page begins, or None."""
 
     def __init__(self, most=MOST):
         self.spaces, self.blobs, self.slots, self.hour, self.most = {}, {}, {}, 0, most
+        self.logs, self.cursors = {}, {}
+
+    def log(self, space):
+        return self.logs.get(space, Log())
+
+    def done(self, name):
+        """The object that a reference serves, or None."""
+        return self.slots[name].done if name in self.slots else None
 
     # ---- the units of the blob file
 
@@ -587,13 +714,31 @@ class State:
         return (space, named) not in self.blobs and length <= MOST_BYTES and len(links) <= MOST_LINKS \
             and self.is_free(start, units_of(length))
 
+    def events(self, entry):
+        """The events that an entry notes, as names of references with what they serve from then on. One is noted where a
+        reference serves another object than before, or served one and is taken away."""
+        kind, where, *rest = entry
+        if kind == 'finalise' or kind == 'put' and rest[2]:
+            return [] if self.done(where) == rest[0] else [(where, rest[0])]
+        gone = [where] if kind == 'delete' else [(where, *spot) for spot in rest[0]] if kind == 'expire' else []
+        return [(name, None) for name in gone if self.done(name) is not None]
+
+    def has_numbers(self, entry):
+        """Whether the numbers of events, which have 64 bits, have room for those that an entry notes."""
+        events = self.events(entry)
+        return not events or self.log(space_of(entry)).last + len(events) < 2 ** 64
+
     def is_legal(self, entry):
         kind, where, *rest = entry
-        space, slot = space_of(entry), self.slots.get(where)
+        if kind == 'base_hour':
+            return True
         if kind == 'space':
             return all(1 <= time <= 1000000 for time in rest)
-        if space not in self.spaces:
-            return False
+        return space_of(entry) in self.spaces and self.has_numbers(entry) and self.is_in_place(space_of(entry), *entry)
+
+    def is_in_place(self, space, kind, where, *rest):
+        """Whether an entry is about what is there, and adds what isn't."""
+        slot = self.slots.get(where)
         if kind == 'upload':
             return self.is_fresh(space, rest[0])
         if kind == 'put' and rest[1]:
@@ -602,31 +747,61 @@ class State:
             return (space, rest[0]) in self.blobs
         if kind == 'finalise':
             return slot is not None and slot.pending == rest[0]
+        if kind == 'expire':
+            return ascend(rest[0]) and all((space, *spot) in self.slots for spot in rest[0])
+        if kind == 'swept':
+            return ascend(rest[0]) and all((space, named) in self.blobs for named in rest[0])
+        if kind == 'cursor':
+            return True
+        if kind == 'base_slot':
+            return slot is None and any(rest[:2])
+        if kind == 'base_event':
+            return self.log(space).can_follow(rest[0])
         return slot is not None and (kind == 'delete' or slot.done is not None)
 
     def follow(self, entry):
         """Makes the change of an entry; raises NoEntry where it isn't legal."""
         if not self.is_legal(entry):
             raise NoEntry
-        kind, where, *rest = entry
-        if kind == 'space':
-            self.spaces[where] = tuple(rest)
-            return
-        space, blob, hour = space_of(entry), fresh_of(entry), rest[-1]
+        for name, added in self.events(entry):
+            self.note(name, self.log(name[0]).last + 1, added)
+        self.change(*entry)
+        if entry[0] in WITH_HOUR:
+            self.hour = max(self.hour, entry[-1])
+
+    def note(self, name, number, added):
+        self.logs.setdefault(name[0], Log()).append(number, name[1:], added, self.most['kept'])
+
+    def change(self, kind, where, *rest):
+        """What an entry leaves but for the events that it notes and the hour."""
+        entry, hour = (kind, where, *rest), rest[-1] if rest else where
+        space, blob = space_of(entry), fresh_of(entry)
         if blob:
             self.blobs[space, blob[0]] = Blob(*blob[1:], hour)
         elif kind in ('repin', 'put'):
             self.blobs[space, rest[0]].at = max(self.blobs[space, rest[0]].at, hour)
-        if kind == 'put':
-            done = self.slots[where].done if where in self.slots else None
-            self.slots[where] = Slot(rest[0], None, hour) if rest[2] else Slot(done, rest[0], hour)
+        if kind == 'space':
+            self.spaces[space] = tuple(rest)
+        elif kind == 'put':
+            self.slots[where] = Slot(rest[0], None, hour) if rest[2] else Slot(self.done(where), rest[0], hour)
         elif kind == 'finalise':
             self.slots[where] = Slot(rest[0], None, hour)
-        elif kind == 'delete':
-            del self.slots[where]
         elif kind == 'touch':
             self.slots[where].seen = hour
-        self.hour = max(self.hour, hour)
+        elif kind == 'delete':
+            del self.slots[where]
+        elif kind == 'expire':
+            for spot in rest[0]:
+                del self.slots[(space, *spot)]
+        elif kind == 'swept':
+            for named in rest[0]:
+                del self.blobs[space, named]
+        elif kind == 'cursor':
+            self.cursors[space] = tuple(rest)
+        elif kind == 'base_slot':
+            self.slots[where] = Slot(*rest)
+        elif kind == 'base_event':
+            self.note(where, *rest)
 
     def fits(self, entry):
         """Refuses an entry that would pass a limit."""
@@ -676,7 +851,7 @@ def load(disks, most=MOST):
     first, second = (disk.read(0, 21) for disk in (disks.first, disks.second))
     number = int(rank(first) < rank(second))
     active = disks.all()[number]
-    items, state = item_bodies(active.read(0, active.length()), number), State(most)
+    items, state = item_bodies(active, number), State(most)
     for at, body in items:
         try:
             state.follow(entry_of(body))
@@ -700,9 +875,10 @@ class Store:
     # ---- entries and reads
 
     def in_history(self, entry):
-        """Refuses an entry for which the history has no room."""
+        """Refuses an entry for which the history has no room, or the numbers of events have none for its events."""
         links = len(fresh_of(entry)[3]) if fresh_of(entry) else 0
-        if self.state.most['entries'] < self.entries + 1 or self.state.most['entry_links'] < self.links + links:
+        if self.state.most['entries'] < self.entries + 1 or self.state.most['entry_links'] < self.links + links \
+                or not self.state.has_numbers(entry):
             raise Refused('history_full', entries=self.entries, links=self.links)
         return links
 

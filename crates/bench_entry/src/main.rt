@@ -7,6 +7,7 @@
 ghost use Rattle.std.specs.Prelude.{◌≡◌, ◌≤◌, true};
 ghost use Rattle.ddc_model.specs.Counts.{added_links, fresh_of};
 ghost use Rattle.ddc_model.specs.Limits.{most_links};
+ghost use Rattle.ddc_entry.specs.Spelling.{IsCounted};
 
 use cb_fields::{Link, LinkKind};
 use ddc_entry::{read_entry, write_entry};
@@ -46,7 +47,8 @@ fn touched(alloc: Global) -> Result<Option<Entry>, NoMemory> {
 
 // How many bytes were written.
 fn write_all(alloc: Global, entry: &Entry, times: u64) -> Result<u64, NoMemory>
-    requires { added_links (fresh_of entry.now) ≤ most_links }
+    requires few_links { added_links (fresh_of entry.now) ≤ most_links }
+    requires is_counted { IsCounted entry.now }
 {
     let mut total = 0u64;
     for _ in 0..times {
@@ -92,8 +94,9 @@ fn entry_of(alloc: Global, count: u64) -> Result<Option<Entry>, NoMemory> {
 }
 
 // Whether an entry may be written.
-fn has_few_links(entry: &Entry) -> bool
-    ensures { result ≡ true → added_links (fresh_of entry.now) ≤ most_links }
+fn may_be_written(entry: &Entry) -> bool
+    ensures few_links { result ≡ true → added_links (fresh_of entry.now) ≤ most_links }
+    ensures is_counted { result ≡ true → IsCounted entry.now }
 {
     match entry {
         Entry::Upload { blob, .. } => blob.links.len() <= MOST_LINKS,
@@ -118,7 +121,7 @@ fn main(rt: HostRuntime) -> io::Result<()> {
     let Ok(Some(entry)) = entry_of(rt.alloc(), links) else {
         return Ok(());
     };
-    if !has_few_links(&entry) {
+    if !may_be_written(&entry) {
         return Ok(());
     }
     let Ok(bytes) = write_entry(rt.alloc(), &entry) else {

@@ -24,6 +24,7 @@ pub struct Most {
     pub refs: u64,
     pub links: u64,
     pub units: u64,
+    pub kept: u32,
     pub entries: u64,
     pub entry_links: u64,
 }
@@ -49,6 +50,7 @@ impl Most {
             refs: limits.refs,
             links: limits.links,
             units: limits.units,
+            kept: limits.kept,
             entries: limits.entries,
             entry_links: limits.entry_links,
         }
@@ -65,6 +67,7 @@ impl Most {
             refs: self.refs,
             links: self.links,
             units: self.units.min(1 << 51),
+            kept: self.kept.max(1),
             entries: self.entries,
             entry_links: self.entry_links,
             ..Limits::standard()
@@ -79,6 +82,7 @@ impl Most {
             "refs" => self.refs = number(word),
             "links" => self.links = number(word),
             "units" => self.units = number(word),
+            "kept" => self.kept = small_number(word),
             "entries" => self.entries = number(word),
             "entry_links" => self.entry_links = number(word),
             _ => {}

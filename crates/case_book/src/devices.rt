@@ -104,6 +104,8 @@ fn step_word(alloc: Global, step: &Step) -> Result<String, NoMemory> {
     match step {
         Step::Loaded { faults, .. } => Ok(format!(in alloc; " loaded:{faults}")?),
         Step::Change(_) => text(alloc, " change"),
+        Step::Lease { number, .. } => Ok(format!(in alloc; " lease:{number}")?),
+        Step::Unlease { number } => Ok(format!(in alloc; " unlease:{number}")?),
         Step::Broke {
             changed,
             before,

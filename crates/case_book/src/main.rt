@@ -17,6 +17,8 @@
 //! - `space SPACE TTL PIN`, `upload SPACE BYTES`, `put SPACE KEY BYTES`, `finalise SPACE KEY HASH`, `get SPACE KEY`,
 //!   `delete SPACE KEY`, `peek SPACE KEY`, `has SPACE HASH`, `open SPACE HASH`, `exist SPACE HASH..`, `verify SPACE HASH`
 //! - `row SPACE HASH`: a blob's length, the units where it stands, and the hour from which it is pinned
+//! - `events SPACE AFTER COUNT`: the number of a namespace's last event, and so many events after a number
+//! - `cursor SPACE`: how far the follower of a namespace has come
 //! - `state`: what the store holds, and the devices' count of faults
 //!
 //! BYTES are pieces with `+` between them, each in hexadecimal, or a number, `*` and what stands so often. A line that begins with `#` is printed as it stands. `checks/book` writes the cases.
@@ -25,6 +27,7 @@
 mod bench;
 mod changes;
 mod devices;
+mod events;
 mod reads;
 mod texts;
 mod words;
@@ -76,6 +79,8 @@ fn of_store(alloc: Global, bench: &mut Bench, call: &str, rest: &str) -> Result<
         "exist" => reads::exist(alloc, book, rest),
         "verify" => reads::verify(alloc, book, rest),
         "row" => reads::row(alloc, book, rest),
+        "events" => events::events(alloc, book, rest),
+        "cursor" => events::cursor(alloc, book, rest),
         "state" => reads::state(alloc, book),
         _ => text(alloc, "no such call"),
     }

@@ -2,7 +2,7 @@
 
 use crate::texts::{refused, text, with_bytes, with_hashes};
 use crate::words::{blob_of, cut, name_of};
-use ddc_book::{Book, Opened, Step};
+use ddc_book::{Book, Opened, Step, StoreFault};
 use ddc_disk::MemDisk;
 use ddc_model::{BlobName, Entry};
 use ddc_names::{IoHash, Namespace, NoMemory};
@@ -147,7 +147,7 @@ fn blobs_added(alloc: Global, steps: &[Step]) -> Result<Vec<BlobName>, NoMemory>
 pub fn damaged(alloc: Global, book: &mut Book<MemDisk>) -> Result<u64, NoMemory> {
     let mut count = 0_u64;
     for blob in blobs_added(alloc, book.steps())? {
-        if book.verify(alloc, &blob.space, blob.hash).is_err() {
+        if let Err(StoreFault::Damaged { .. }) = book.verify(alloc, &blob.space, blob.hash) {
             count = count.saturating_add(1);
         }
     }

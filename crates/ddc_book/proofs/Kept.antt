@@ -24,7 +24,7 @@ use Rattle.ddc_model.specs.Entries.{after}
 use Rattle.ddc_model.specs.Counts.{fresh_of}
 use Rattle.ddc_model.specs.Sound.{Cache, IsSound}
 use Rattle.ddc_model.specs.Commands.{changed, kept}
-use Rattle.ddc_model.specs.History.{after_steps, broken_by, AreLawful}
+use Rattle.ddc_model.specs.History.{after_steps, broken_by, leases_of_all, no_leases, AreLawful}
 use Rattle.ddc_opening.specs.Opening.{version, AreLegal, after_all, AllReach, OpensSound}
 use Rattle.ddc_book.specs.View.{BookView, told_cache, told_bytes, opened_count, sure_count, OpensFrom, Reaches, IsHonest, IsHistory, IsStored, IsBook}
 use Rattle.ddc_book.specs.Calls.{OpensWhole, change_in, next_cache, Commits, GoesOn}
@@ -126,11 +126,11 @@ module _ {D : Type 0} (tells : Bool) (meaning : D → Meaning) (rests : (d : D) 
         (λ late. from_fewer limits made im (opened_count steps) (length steps) (count_within limits steps s (devices_faults meaning devices) book.history) (since_then honest t im late left)) (cases_lt t line.moment))
 
     -- the history, where the steps after the change leave its state, and are lawful
-    history_made : after s entry ≡ after_steps (after s entry) tail → AreLawful book.history.faults (after s entry) tail → IfSome (broken_by tail) (λ now. now ≤ devices_faults meaning after_devices)
+    history_made : after s entry ≡ after_steps (after s entry) tail → AreLawful book.history.faults (after s entry) (leases_of_all no_leases book.history.made) tail → IfSome (broken_by tail) (λ now. now ≤ devices_faults meaning after_devices)
         → IsHistory (after s entry).limits made (after s entry) (devices_faults meaning after_devices)
     history_made still lawful broken =
         subst (λ (l : Limits). IsHistory l made (after s entry) (devices_faults meaning after_devices)) (sym same_limits)
-        (history_more limits steps s (devices_faults meaning devices) book.history (Change entry ∷ tail) (after s entry) (devices_faults meaning after_devices) unbroken later still (fit.lawful, lawful) broken)
+        (history_more limits steps s (devices_faults meaning devices) book.history (Change entry ∷ tail) (after s entry) (devices_faults meaning after_devices) unbroken later still (fit.lawful (leases_of_all no_leases book.history.made), lawful) broken)
 
     change_is : change_in (drop (length steps) made) ≡ Some entry
     change_is = ap change_in (drop-append_seam steps (Change entry ∷ tail))
@@ -263,7 +263,7 @@ module _ {D : Type 0} (tells : Bool) (meaning : D → Meaning) (rests : (d : D) 
 
     pub kept_failed : (after_reads : ℕ) → IsBook tells meaning (seen tells meaning after_devices (after s entry) (steps ++ Change entry ∷ Broke true before now ∷ []) opened after_reads) new_pair
     kept_failed after_reads = record {
-      history = history_made Noted refl (omega (arith, was_count, book.history.later), omega (arith, was_count, is_count, rose), refl) (omega (arith, is_count));
+      history = history_made Noted refl (omega (arith, was_count, book.history.later), omega (arith, was_count, is_count, rose), tt) (omega (arith, is_count));
       whole = fit.whole;
       low = subst (λ (l : Limits). l.units ≤ 2 ^ 51) (sym same_limits) book.low;
       time = omega (arith, book.time, past.later);

@@ -14,7 +14,7 @@ use Rattle.ddc_model.specs.declared.entry.Step.{Step}
 use Rattle.ddc_model.specs.declared.entry.Step.TheVariants.{Loaded, Broke}
 use Rattle.ddc_model.specs.State.{State, empty_state}
 use Rattle.ddc_model.specs.Sound.{Cache, IsSound}
-use Rattle.ddc_model.specs.History.{after_steps, broken_by, AreLawful}
+use Rattle.ddc_model.specs.History.{after_steps, broken_by, leases_of_all, no_leases, AreLawful}
 use Rattle.ddc_opening.specs.Opening.{AllReach, OpensAs}
 use Rattle.ddc_opening.specs.Loading.{AsBefore}
 use Rattle.ddc_book.specs.View.{BookView, told_cache, told_bytes, opened_count, sure_count, OpensFrom, Reaches, IsHonest, IsHistory, IsStored, IsBook}
@@ -52,7 +52,7 @@ module _ (limits : Limits) (steps : List Step) (s : State) (count : ℕ) (h : Is
   }
 
   -- more steps stand, which are lawful and leave this state
-  pub history_more : (tail : List Step) (t : State) (more : ℕ) → broken_by steps ≡ None → count ≤ more → t ≡ after_steps s tail → AreLawful h.faults s tail → IfSome (broken_by tail) (λ now. now ≤ more) → IsHistory limits (steps ++ tail) t more
+  pub history_more : (tail : List Step) (t : State) (more : ℕ) → broken_by steps ≡ None → count ≤ more → t ≡ after_steps s tail → AreLawful h.faults s (leases_of_all no_leases h.made) tail → IfSome (broken_by tail) (λ now. now ≤ more) → IsHistory limits (steps ++ tail) t more
   history_more tail t more none le leaves lawful broken =
       let since : s ≡ after_steps (after_steps (empty_state limits) h.opened) h.made = h.leaves ∙ ap (after_steps (empty_state limits)) h.split ∙ steps_more (empty_state limits) h.opened (Loaded limits h.faults ∷ h.made) in
       record {
@@ -61,8 +61,8 @@ module _ (limits : Limits) (steps : List Step) (s : State) (count : ℕ) (h : Is
         made = h.made ++ tail;
         split = ap (λ (l : List Step). l ++ tail) h.split ∙ append_assoc h.opened (Loaded limits h.faults ∷ h.made) tail;
         unbroken = h.unbroken;
-        lawful = lawful_more h.faults (after_steps (empty_state limits) h.opened) h.made tail (unbroken_after h.opened limits h.faults h.made (ap broken_by (sym h.split) ∙ none)) h.lawful
-            (subst (λ (t : State). AreLawful h.faults t tail) since lawful);
+        lawful = lawful_more h.faults (after_steps (empty_state limits) h.opened) no_leases h.made tail (unbroken_after h.opened limits h.faults h.made (ap broken_by (sym h.split) ∙ none)) h.lawful
+            (subst (λ (t : State). AreLawful h.faults t (leases_of_all no_leases h.made) tail) since lawful);
         leaves = leaves ∙ ap (λ (t : State). after_steps t tail) h.leaves ∙ sym (steps_more (empty_state limits) steps tail);
         later = omega (arith, h.later, le);
         broken = subst (λ (o : Option ℕ). IfSome o (λ now. now ≤ more)) (sym (broken_more steps tail none)) broken;
@@ -181,7 +181,7 @@ module _ {D : Type 0} (tells : Bool) (meaning : D → Meaning) (rests : (d : D) 
       pub kept_unread : (more : ℕ) → IsBook tells meaning (seen tells meaning after s (steps ++ Broke false before now ∷ []) opened more) pair
       kept_unread more = record {
         history = history_more s.limits steps s (devices_faults meaning devices) kept.history tail s (devices_faults meaning after) none as_before.later refl
-            (omega (arith, was, kept.history.later), omega (arith, was, is, rose), refl) (omega (arith, is));
+            (omega (arith, was, kept.history.later), omega (arith, was, is, rose), tt) (omega (arith, is));
         whole = kept.whole;
         low = kept.low;
         time = omega (arith, kept.time, as_before.since.later);

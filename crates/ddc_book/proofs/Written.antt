@@ -12,7 +12,7 @@ use Rattle.ddc_model.specs.declared.rows.BlobName.{BlobName}
 use Rattle.ddc_model.specs.declared.rows.Extent.{Extent}
 use Rattle.ddc_model.specs.declared.entry.Stored.{Stored}
 use Rattle.ddc_model.specs.declared.entry.Entry.{Entry}
-use Rattle.ddc_model.specs.declared.entry.Entry.TheVariants.{Space, Upload, Repin, Put, Finalise, Delete, Touch}
+use Rattle.ddc_model.specs.declared.entry.Entry.TheVariants.{Space, Upload, Repin, Put, Finalise, Delete, Touch, Expire, Swept, Cursor, BaseHour, BaseSlot, BaseEvent}
 use Rattle.ddc_model.specs.Limits.{most_bytes, most_links}
 use Rattle.ddc_model.specs.State.{State, has_blob, has_space}
 use Rattle.ddc_model.specs.Extents.{units_of, Apart, is_free, IsPlaced}
@@ -21,6 +21,7 @@ use Rattle.ddc_model.specs.Counts.{fresh_of}
 use Rattle.ddc_model.specs.Commands.{kept}
 use Rattle.ddc_model.proofs.Maps.{same_some}
 use Rattle.ddc_model.proofs.Bytes.{later, Adds, Have, stay}
+use Rattle.ddc_model.proofs.Placed.{fits}
 use Rattle.ddc_model.specs.ExtentLaws.{free_apart, free_within}
 use Rattle.blob_store.specs.Bytes.{first_byte, LieIn, bytes_from, HasPlace}
 use Rattle.blob_store.specs.BytesLaws.{bytes_by_index, other_extent, written_has}
@@ -106,11 +107,17 @@ legal_free s (Upload space blob hour) is fresh e = subst (λ (f : Stored). IsFre
 legal_free s (Repin space hash hour) is fresh e = absurd (cc)
 legal_free s (Put name root None whole hour) is fresh e = absurd (cc)
 legal_free s (Put name root (Some blob) whole hour) is fresh e =
-    let parts = and_parts (has_space s name.space) (same_hash blob.hash root && is_fresh s name.space blob) is in
+    let parts = and_parts (has_space s name.space) (same_hash blob.hash root && is_fresh s name.space blob) (fits s (Put name root (Some blob) whole hour) is) in
     subst (λ (f : Stored). IsFreeIn s f) (same_some blob fresh e) (fresh_free s name.space blob (and_parts (same_hash blob.hash root) (is_fresh s name.space blob) parts.1).1)
 legal_free s (Finalise name hash hour) is fresh e = absurd (cc)
 legal_free s (Delete name hour) is fresh e = absurd (cc)
 legal_free s (Touch name hour) is fresh e = absurd (cc)
+legal_free s (Expire space spots hour) is fresh e = absurd (cc)
+legal_free s (Swept space hashes) is fresh e = absurd (cc)
+legal_free s (Cursor space cursor) is fresh e = absurd (cc)
+legal_free s (BaseHour hour) is fresh e = absurd (cc)
+legal_free s (BaseSlot name finalised pending seen) is fresh e = absurd (cc)
+legal_free s (BaseEvent name number op) is fresh e = absurd (cc)
 
 -- ---- the file once the blob was written
 
@@ -227,3 +234,9 @@ module _ (s : State) (entry : Entry) (blob : Option (List ℕ)) (placed : IsPlac
         adds (Finalise name hash hour) known = tt
         adds (Delete name hour) known = tt
         adds (Touch name hour) known = tt
+        adds (Expire space spots hour) known = tt
+        adds (Swept space hashes) known = tt
+        adds (Cursor space cursor) known = tt
+        adds (BaseHour hour) known = tt
+        adds (BaseSlot name finalised pending seen) known = tt
+        adds (BaseEvent name number op) known = tt

@@ -6,7 +6,7 @@ use Rattle.ddc_disk.specs.Images.{Images}
 use Rattle.ddc_model.specs.declared.rows.Limits.{Limits}
 use Rattle.ddc_model.specs.declared.entry.Entry.{Entry}
 use Rattle.ddc_model.specs.declared.entry.Step.{Step}
-use Rattle.ddc_model.specs.declared.entry.Step.TheVariants.{Loaded, Change, Broke}
+use Rattle.ddc_model.specs.declared.entry.Step.TheVariants.{Change, Broke}
 use Rattle.ddc_model.specs.declared.fault.StoreFault.{StoreFault}
 use Rattle.ddc_model.specs.declared.fault.StoreFault.TheVariants.{Broken, NoMemory, DiskFailed}
 use Rattle.ddc_model.specs.Sound.{Cache}
@@ -76,8 +76,7 @@ pub record OpensWhole (limits : Limits) (im : Images) (cache : Cache) : Type 0 w
 abbrev pub change_in : List Step → Option Entry
 change_in [] = None
 change_in (Change entry ∷ steps) = Some entry
-change_in (Loaded limits faults ∷ steps) = None
-change_in (Broke made before now ∷ steps) = None
+change_in (step ∷ steps) = None
 
 -- the state after a call that was given these bytes: what its change leaves of the state before
 abbrev pub next_cache : {D : Type 0} → BookView D → List ℕ → BookView D → Cache

@@ -15,7 +15,7 @@ use Rattle.ddc_model.specs.contracts.entry.Step as step
 use Rattle.ddc_model.specs.Keys.{blob_cmp, coded_blob_name}
 use Rattle.ddc_model.specs.State.{State, coded_state, empty_state}
 use Rattle.ddc_model.specs.Sound.{Cache, AreWhole, IsSound}
-use Rattle.ddc_model.specs.History.{after_steps, broken_by, AreLawful}
+use Rattle.ddc_model.specs.History.{after_steps, broken_by, no_leases, AreLawful}
 use Rattle.ddc_opening.specs.Opening.{bytes_in, AllReach, AreLegal, after_all, OpensSound}
 use Rattle.ddc_opening.specs.Loading.{IsReady}
 
@@ -74,7 +74,7 @@ pub record IsHistory (limits : Limits) (steps : List Step) (s : State) (count : 
   pub made : List Step
   pub split : steps ≡ opened ++ Loaded limits faults ∷ made
   pub unbroken : broken_by opened ≡ None
-  pub lawful : AreLawful faults (after_steps (empty_state limits) opened) made
+  pub lawful : AreLawful faults (after_steps (empty_state limits) opened) no_leases made
   pub leaves : s ≡ after_steps (empty_state limits) steps
   pub later : faults ≤ count
   pub broken : IfSome (broken_by steps) (λ now. now ≤ count)
@@ -85,8 +85,7 @@ pub record IsHistory (limits : Limits) (steps : List Step) (s : State) (count : 
 abbrev pub opened_count : List Step → ℕ
 opened_count [] = 0
 opened_count (Loaded limits faults ∷ steps) = 1
-opened_count (Change entry ∷ steps) = 1 + opened_count steps
-opened_count (Broke changed before now ∷ steps) = 1 + opened_count steps
+opened_count (step ∷ steps) = 1 + opened_count steps
 
 -- how many steps are sure: all of them, but for the change of a call that failed
 abbrev pub sure_count : List Step → ℕ

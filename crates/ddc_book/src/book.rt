@@ -268,6 +268,7 @@ impl<D: Disk> Book<D> {
         if limits.entries <= entries
             || limits.entry_links < links
             || limits.entry_links - links < added_links_of(entry)
+            || !self.index.has_room_for_events(entry)
         {
             return Some(StoreFault::HistoryFull { entries, links });
         }

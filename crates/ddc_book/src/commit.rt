@@ -4,7 +4,7 @@ ghost use Rattle.std.specs.Prelude.{◌≡◌, ◌++◌, ◌∷◌, [], ◌≤�
 ghost use Rattle.ddc_names.specs.Causes.{HasCause, Rose};
 ghost use Rattle.ddc_disk.specs.Disk.{EachSince, IsSure};
 ghost use Rattle.ddc_disk.specs.Images.{devices_faults, devices_line};
-ghost use Rattle.ddc_entry.specs.Spelling.{spelling, IsEntry};
+ghost use Rattle.ddc_entry.specs.Spelling.{spelling, IsCounted, IsEntry};
 ghost use Rattle.ddc_journal.specs.Pairs.{IsPairReady};
 ghost use Rattle.blob_store.specs.Bytes.{ChangesOnly, LieIn};
 ghost use Rattle.ddc_model.specs.Limits.{most_bytes, most_links};
@@ -30,6 +30,7 @@ use std::alloc::Global;
 // The entry as it is written.
 fn written(alloc: Global, entry: &Entry) -> Result<Framed, NoMemory>
     requires few_links { added_links (fresh_of entry.now) ≤ most_links }
+    requires counted { IsCounted entry.now }
     ensures body { IfOk result (λ item. item ≡ spelling entry.now) }
     ensures spellable { OnOk result (IsEntry entry.now) }
 {
@@ -142,7 +143,7 @@ impl<D: Disk> Book<D> {
         answer: A,
     ) -> Result<A, StoreFault>
         requires serves { IsServing D.tells D.meaning self.old }
-        requires fit { IsFit self.old.cache entry blob }
+        requires fit { no_room self.old.cache.index (past_of self.old.steps) entry ≡ None → IsFit self.old.cache entry blob }
         ensures gives { CommandGives D.meaning self.old (bytes_or_none blob) self.new (WithRoom self.old.cache.index (past_of self.old.steps) (λ wished made. (wished ≡ Ok answer) × (made ≡ Some entry))) result }
         ensures goes_on { GoesOn D.tells D.meaning self.old (bytes_or_none blob) self.new }
         ensures cause { result ≡ Err StoreFault.DiskFailed → Rose (book_faults D.meaning self.old) (book_faults D.meaning self.new) }

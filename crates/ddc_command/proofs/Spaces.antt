@@ -19,7 +19,7 @@ use Rattle.std.specs.FinMap.{len}
 roomy : (s : State) (space : List ℕ) (ttl pin : ℕ) → s.limits ≡ standard → no_room_for s none_yet (Some (Space space ttl pin)) ≡ None
 roomy s space ttl pin limits =
     let none : Option StoreFault = None in
-    let P : Limits → Type 0 = λ l. (if nat_lt l.entries (0 + 1) || nat_lt l.entry_links (0 + 0) then Some (HistoryFull 0 0) else none) ≡ none in
+    let P : Limits → Type 0 = λ l. (if nat_lt l.entries (0 + 1) || nat_lt l.entry_links (0 + 0) || false then Some (HistoryFull 0 0) else none) ≡ none in
     subst P (sym limits) refl
 
 room_where : (s : State) (space : List ℕ) (ttl pin : ℕ) (wished answer : Result (Unit {0}) StoreFault) (entry made : Option Entry) (fault : Option StoreFault) → s.limits ≡ standard → EntryWhere (unless fault (Some (Space space ttl pin))) wished entry

@@ -1,10 +1,9 @@
 -- The readers of parts undo the spellings of parts.
-use Rattle.std.proofs.Common.{◌≡◌, ℕ, zero, suc, ◌^◌, ◌<◌, ◌≤◌, Bool, true, false, cond, ltb, List, [], ◌∷◌, ◌++◌, length, take, drop, Option, Some, None, refl, sym, ap, subst, ◌∙◌, append_assoc, arith, inl, inr}
-use Rattle.std.specs.Prelude.{IfSome}
+use Rattle.std.proofs.Common.{◌≡◌, ℕ, ◌^◌, ◌<◌, ◌≤◌, Bool, true, false, cond, ltb, leb, ◌&&◌, List, [], ◌∷◌, ◌++◌, length, take, drop, Option, Some, None, refl, sym, ap, subst, append_assoc, arith, inl, inr}
 use Rattle.std.specs.List.{flat_map, AllByRecursion}
 use Rattle.std.specs.Int.{w32, w64, from_le_bytes, to_le_bytes}
 use Rattle.std.specs.Result.{result_ok}
-use Rattle.std.proofs.lemmas.Bool.{cases_lt, ltb-false, le-ltb}
+use Rattle.std.proofs.lemmas.Bool.{cases_lt, and_parts, leb-true, le-leb, ltb-false, le-ltb}
 use Rattle.std.proofs.lemmas.List.{take_at, drop_at, take-append-drop, length-append, length-take, get_or-take, get_or_past}
 use Rattle.std.proofs.lemmas.Nat.{le_bytes_4, le_bytes_8, from_le_bytes-to_le_bytes_4, from_le_bytes-to_le_bytes_8}
 use Rattle.std.proofs.lemmas.Option.{same_Some}
@@ -17,10 +16,11 @@ use Rattle.ddc_names.specs.declared.reference.RefSpot.{RefSpot}
 use Rattle.cb_fields.specs.declared.links.Link.{Link}
 use Rattle.cb_fields.specs.declared.links.LinkKind.{LinkKind}
 use Rattle.cb_fields.specs.declared.links.LinkKind.TheVariants.{Object, Binary}
+use Rattle.replication_log.specs.declared.event.EventOp.TheVariants.{Added, Deleted}
 use Rattle.ddc_model.specs.declared.entry.Stored.{Stored}
-use Rattle.ddc_entry.specs.Spelling.{four_bytes, eight_bytes, name, spot, ref_name, flag, kind_byte, link_bytes, stored_bytes, optional, IsFour, IsEight, IsName, AreTwenty, IsHash, IsSpot, IsRefName, IsLink, IsStored}
-use Rattle.ddc_entry.specs.inside.Reading.{◌>>=◌, both, made, tagged, none_at, given, bytes_at, four_at, eight_at, sized_at, name_at, hash_at, key_at, spot_at, ref_name_at, flag_at, kind_at, link_at, links_at, counted_links_at, stored_at, fresh_at}
-use Rattle.ddc_entry.proofs.Readers.{IsBytes, Again, Undoes, bind_some, back_bytes, both_undo, made_undoes, recast, nothing_takes, tagged_takes, given_takes, made_takes, made_again}
+use Rattle.ddc_entry.specs.Spelling.{four_bytes, eight_bytes, name, spot, ref_name, flag, kind_byte, link_bytes, stored_bytes, op_bytes, IsFour, IsEight, IsName, AreTwenty, IsCount, IsHash, IsSpot, IsRefName, IsLink, IsStored, IsOp}
+use Rattle.ddc_entry.specs.inside.Reading.{◌>>=◌, both, made, tagged, none_at, given, counted_at, bytes_at, four_at, eight_at, count_at, sized_at, name_at, hash_at, key_at, spot_at, ref_name_at, flag_at, kind_at, link_at, stored_at, op_at}
+use Rattle.ddc_entry.proofs.Readers.{IsBytes, Takes, Again, Undoes, bind_some, both_undo, made_undoes, recast, nothing_takes, tagged_takes, given_takes, made_takes, made_again, counted_undo}
 
 -- ---- bytes
 
@@ -77,9 +77,30 @@ pub four_undo : Undoes four_at four_bytes IsFour
 unfolding four_at
 four_undo = number_undoes 4 (2 ^ 32) (from_le_bytes w32) (to_le_bytes w32) (λ k. refl) (λ bytes count small. le_bytes_4 bytes _ count small refl) (λ k lt. from_le_bytes-to_le_bytes_4 k lt) (λ bytes small. omega (arith, small 0, small 1, small 2, small 3))
 
-eight_undo : Undoes eight_at eight_bytes IsEight
+pub eight_undo : Undoes eight_at eight_bytes IsEight
 unfolding eight_at
 eight_undo = number_undoes 8 (2 ^ 64) (from_le_bytes w64) (to_le_bytes w64) (λ k. refl) (λ bytes count small. le_bytes_8 bytes _ count small refl) (λ k lt. from_le_bytes-to_le_bytes_8 k lt) (λ bytes small. omega (arith, small 0, small 1, small 2, small 3, small 4, small 5, small 6, small 7))
+
+-- ---- counts of 1 to 64
+
+chosen_of : {A : Type 0} (b : Bool) (x y : A) → cond b (Some x) None ≡ Some y → (b ≡ true) × (x ≡ y)
+chosen_of true x y e = (refl, cc)
+chosen_of false x y e = absurd cc
+
+count_takes : Takes count_at (λ n. n ∷ []) IsCount
+unfolding count_at
+count_takes [] n rest small e = absurd cc
+count_takes (b ∷ bytes) n rest small e =
+    let g = chosen_of (leb 1 b && leb b 64) (b, bytes) (n, rest) e in
+    let within = and_parts (leb 1 b) (leb b 64) g.0 in
+    subst (λ (y : ℕ × List ℕ). (b ∷ bytes ≡ y.0 ∷ y.1) × IsCount y.0) g.1 (refl, (leb-true 1 b within.0, leb-true b 64 within.1))
+
+count_again : Again count_at (λ n. n ∷ []) IsCount
+unfolding count_at
+count_again n rest fit = rw (le-leb 1 n fit.0, le-leb n 64 fit.1) refl
+
+pub count_undoes : Undoes count_at (λ n. n ∷ []) IsCount
+count_undoes = record { takes = count_takes; again = count_again }
 
 -- ---- names
 
@@ -126,7 +147,7 @@ key_undoes : Undoes key_at (λ key. key.0) (λ key. AreTwenty key.0)
 unfolding key_at
 key_undoes = made_undoes (bytes_at 20) (λ bytes. bytes) AreTwenty (λ (bytes : List ℕ). let key : RefKey = record { 0 = bytes } in key) (λ key. key.0) (λ _. refl) (λ _. refl) twenty_undo
 
-spot_undoes : Undoes spot_at spot IsSpot
+pub spot_undoes : Undoes spot_at spot IsSpot
 unfolding spot_at
 spot_undoes = made_undoes (both name_at key_at) (λ x. name x.0 ++ x.1.0) (λ x. IsName x.0 × AreTwenty x.1.0) (λ (p : List ℕ × RefKey). let spot : RefSpot = record { bucket = p.0; key = p.1 } in spot) (λ s. (s.bucket, s.key)) (λ _. refl) (λ _. refl)
     (both_undo name_at key_at name (λ key. key.0) IsName (λ key. AreTwenty key.0) name_undoes key_undoes)
@@ -175,43 +196,6 @@ link_undoes =
     (made_undoes (both kind_at hash_at) (λ x. (kind_byte x.0 ∷ []) ++ x.1.0) (λ x. Unit {0} × IsHash x.1) (λ (p : LinkKind × IoHash). let to : Link = record { kind = p.0; hash = p.1 } in to) (λ to. (to.kind, to.hash)) (λ _. refl) (λ _. refl)
     (both_undo kind_at hash_at (λ kind. kind_byte kind ∷ []) (λ hash. hash.0) (λ kind. Unit {0}) IsHash kind_undoes hash_undoes))
 
-links_take : (n : ℕ) (bytes : List ℕ) (links : List Link) (rest : List ℕ) → IsBytes bytes → links_at n bytes ≡ Some (links, rest) → (bytes ≡ flat_map link_bytes links ++ rest) × (length links ≡ n) × AllByRecursion IsLink links
-unfolding links_at
-links_take zero bytes links rest small e =
-    subst (λ (y : List Link × List ℕ). (bytes ≡ flat_map link_bytes y.0 ++ y.1) × (length y.0 ≡ 0) × AllByRecursion IsLink y.0) (same_Some ([], bytes) (links, rest) e) (refl, refl, tt)
-links_take (suc n) bytes links rest small e =
-    let a = bind_some (link_at bytes) (λ first. links_at n first.1 >>= λ others. Some (first.0 ∷ others.0, others.1)) (links, rest) e in
-    let b = bind_some (links_at n a.0.1) (λ others. Some (a.0.0 ∷ others.0, others.1)) (links, rest) a.2 in
-    let first = link_undoes.takes bytes a.0.0 a.0.1 small a.1 in
-    let behind : IsBytes (link_bytes a.0.0 ++ a.0.1) = subst (λ (t : List ℕ). IsBytes t) first.0 small in
-    let others = links_take n a.0.1 b.0.0 b.0.1 (back_bytes (link_bytes a.0.0) a.0.1 behind) b.1 in
-    let cut : bytes ≡ flat_map link_bytes (a.0.0 ∷ b.0.0) ++ b.0.1 = first.0 ∙ ap (λ (t : List ℕ). link_bytes a.0.0 ++ t) others.0 ∙ sym (append_assoc (link_bytes a.0.0) (flat_map link_bytes b.0.0) b.0.1) in
-    subst (λ (y : List Link × List ℕ). (bytes ≡ flat_map link_bytes y.0 ++ y.1) × (length y.0 ≡ suc n) × AllByRecursion IsLink y.0) (same_Some (a.0.0 ∷ b.0.0, b.0.1) (links, rest) b.2) (cut, ap suc others.1, (first.1, others.2))
-
-links_again : (links : List Link) (rest : List ℕ) → AllByRecursion IsLink links → links_at (length links) (flat_map link_bytes links ++ rest) ≡ Some (links, rest)
-unfolding links_at
-links_again [] rest fit = refl
-links_again (l ∷ ls) rest fit =
-    ap (links_at (suc (length ls))) (append_assoc (link_bytes l) (flat_map link_bytes ls) rest) ∙ rw (link_undoes.again l (flat_map link_bytes ls ++ rest) fit.0, links_again ls rest fit.1) refl
-
-counted_again : (links : List Link) (rest : List ℕ) → four_at (four_bytes (length links) ++ (flat_map link_bytes links ++ rest)) ≡ Some (length links, flat_map link_bytes links ++ rest) → AllByRecursion IsLink links → counted_links_at ((four_bytes (length links) ++ flat_map link_bytes links) ++ rest) ≡ Some (links, rest)
-unfolding counted_links_at
-counted_again links rest first fit =
-    ap (λ (r : Option (ℕ × List ℕ)). r >>= λ n. links_at n.0 n.1) first ∙ links_again links rest fit
-
-counted_undo : Undoes counted_links_at (λ links. four_bytes (length links) ++ flat_map link_bytes links) (λ links. IsFour (length links) × AllByRecursion IsLink links)
-unfolding counted_links_at
-counted_undo = record {
-  takes = λ bytes links rest small e.
-      let n = bind_some (four_at bytes) (λ n. links_at n.0 n.1) (links, rest) e in
-      let front = four_undo.takes bytes n.0.0 n.0.1 small n.1 in
-      let behind : IsBytes (four_bytes n.0.0 ++ n.0.1) = subst (λ (t : List ℕ). IsBytes t) front.0 small in
-      let later = links_take n.0.0 n.0.1 links rest (back_bytes (four_bytes n.0.0) n.0.1 behind) n.2 in
-      let cut : bytes ≡ (four_bytes n.0.0 ++ flat_map link_bytes links) ++ rest = front.0 ∙ ap (λ (t : List ℕ). four_bytes n.0.0 ++ t) later.0 ∙ sym (append_assoc (four_bytes n.0.0) (flat_map link_bytes links) rest) in
-      subst (λ (k : ℕ). (bytes ≡ (four_bytes k ++ flat_map link_bytes links) ++ rest) × (IsFour k × AllByRecursion IsLink links)) (sym later.1) (cut, (front.1, later.2));
-  again = λ links rest fit. counted_again links rest (four_undo.again (length links) (flat_map link_bytes links ++ rest) fit.0) fit.1;
-}
-
 five_parts : (a b c d e : List ℕ) → a ++ (b ++ (c ++ (d ++ e))) ≡ (((a ++ b) ++ c) ++ d) ++ e
 five_parts a b c d e = simp append_assoc
 
@@ -222,26 +206,27 @@ stored_undoes =
     (λ blob. IsHash blob.hash × (IsEight blob.len × (IsEight blob.start × (IsFour (length blob.links) × AllByRecursion IsLink blob.links)))) IsStored
     (λ blob. five_parts blob.hash.0 (eight_bytes blob.len) (eight_bytes blob.start) (four_bytes (length blob.links)) (flat_map link_bytes blob.links))
     (λ blob h. (h.0, h.1.0, h.1.1.0, h.1.1.1.0, h.1.1.1.1)) (λ blob h. (h.0, (h.1, (h.2, (h.3, h.4)))))
-    (made_undoes (both hash_at (both eight_at (both eight_at counted_links_at)))
+    (made_undoes (both hash_at (both eight_at (both eight_at (counted_at four_at link_at))))
     (λ x. x.0.0 ++ (eight_bytes x.1.0 ++ (eight_bytes x.1.1.0 ++ (four_bytes (length x.1.1.1) ++ flat_map link_bytes x.1.1.1))))
     (λ x. IsHash x.0 × (IsEight x.1.0 × (IsEight x.1.1.0 × (IsFour (length x.1.1.1) × AllByRecursion IsLink x.1.1.1))))
     (λ (p : IoHash × (ℕ × (ℕ × List Link))). let blob : Stored = record { hash = p.0; len = p.1.0; start = p.1.1.0; links = p.1.1.1 } in blob)
     (λ blob. (blob.hash, (blob.len, (blob.start, blob.links)))) (λ _. refl) (λ _. refl)
-    (both_undo hash_at (both eight_at (both eight_at counted_links_at)) (λ hash. hash.0) (λ x. eight_bytes x.0 ++ (eight_bytes x.1.0 ++ (four_bytes (length x.1.1) ++ flat_map link_bytes x.1.1))) IsHash (λ x. IsEight x.0 × (IsEight x.1.0 × (IsFour (length x.1.1) × AllByRecursion IsLink x.1.1))) hash_undoes
-    (both_undo eight_at (both eight_at counted_links_at) eight_bytes (λ x. eight_bytes x.0 ++ (four_bytes (length x.1) ++ flat_map link_bytes x.1)) IsEight (λ x. IsEight x.0 × (IsFour (length x.1) × AllByRecursion IsLink x.1)) eight_undo
-    (both_undo eight_at counted_links_at eight_bytes (λ x. four_bytes (length x) ++ flat_map link_bytes x) IsEight (λ x. IsFour (length x) × AllByRecursion IsLink x) eight_undo counted_undo))))
+    (both_undo hash_at (both eight_at (both eight_at (counted_at four_at link_at))) (λ hash. hash.0) (λ x. eight_bytes x.0 ++ (eight_bytes x.1.0 ++ (four_bytes (length x.1.1) ++ flat_map link_bytes x.1.1))) IsHash (λ x. IsEight x.0 × (IsEight x.1.0 × (IsFour (length x.1.1) × AllByRecursion IsLink x.1.1))) hash_undoes
+    (both_undo eight_at (both eight_at (counted_at four_at link_at)) eight_bytes (λ x. eight_bytes x.0 ++ (four_bytes (length x.1) ++ flat_map link_bytes x.1)) IsEight (λ x. IsEight x.0 × (IsFour (length x.1) × AllByRecursion IsLink x.1)) eight_undo
+    (both_undo eight_at (counted_at four_at link_at) eight_bytes (λ x. four_bytes (length x) ++ flat_map link_bytes x) IsEight (λ x. IsFour (length x) × AllByRecursion IsLink x) eight_undo (counted_undo four_at four_bytes IsFour link_at link_bytes IsLink four_undo link_undoes)))))
 
-fresh_again : Again fresh_at (optional stored_bytes) (λ fresh. IfSome fresh IsStored)
-unfolding fresh_at
-fresh_again None rest fit = refl
-fresh_again (Some blob) rest fit = made_again stored_at stored_bytes IsStored Some stored_undoes blob rest fit
+-- ---- what happened to a reference
 
-pub fresh_undoes : Undoes fresh_at (optional stored_bytes) (λ fresh. IfSome fresh IsStored)
-unfolding fresh_at
-fresh_undoes = record {
-  takes = tagged_takes 0 (given None) (tagged 1 (made Some stored_at) none_at) (optional stored_bytes) (λ fresh. IfSome fresh IsStored)
-      (given_takes 0 None (optional stored_bytes) (λ fresh. IfSome fresh IsStored) refl tt)
-      (tagged_takes 1 (made Some stored_at) none_at (optional stored_bytes) (λ fresh. IfSome fresh IsStored)
-      (made_takes 1 stored_at stored_bytes IsStored Some (optional stored_bytes) (λ fresh. IfSome fresh IsStored) (λ blob. refl) (λ blob h. h) stored_undoes) (nothing_takes (optional stored_bytes) (λ fresh. IfSome fresh IsStored)));
-  again = fresh_again;
+op_again : Again op_at op_bytes IsOp
+unfolding op_at
+op_again (Added object) rest fit = made_again hash_at (λ hash. hash.0) IsHash Added hash_undoes object rest fit
+op_again Deleted rest fit = refl
+
+pub op_undoes : Undoes op_at op_bytes IsOp
+unfolding op_at
+op_undoes = record {
+  takes = tagged_takes 0 (made Added hash_at) (tagged 1 (given Deleted) none_at) op_bytes IsOp
+      (made_takes 0 hash_at (λ hash. hash.0) IsHash Added op_bytes IsOp (λ object. refl) (λ object h. h) hash_undoes)
+      (tagged_takes 1 (given Deleted) none_at op_bytes IsOp (given_takes 1 Deleted op_bytes IsOp refl tt) (nothing_takes op_bytes IsOp));
+  again = op_again;
 }

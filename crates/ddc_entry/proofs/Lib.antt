@@ -1,4 +1,4 @@
 pub mod Readers
 pub mod Fields
 pub mod Entries
-pub mod Links
+pub mod Many

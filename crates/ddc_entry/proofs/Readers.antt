@@ -1,9 +1,11 @@
 -- Readers undo spellings, and so do those that are put together of them.
-use Rattle.std.proofs.Common.{◌≡◌, ℕ, suc, ◌<◌, Bool, true, false, cond, eqb, ◌⊎◌, List, [], ◌∷◌, ◌++◌, Option, Some, None, refl, sym, ap, subst, ◌∙◌, append_assoc, inl, inr}
-use Rattle.std.specs.Prelude.{slice_index}
+use Rattle.std.proofs.Common.{◌≡◌, ℕ, zero, suc, ◌<◌, Bool, true, false, cond, eqb, ◌⊎◌, List, [], ◌∷◌, ◌++◌, length, Option, Some, None, refl, sym, ap, subst, ◌∙◌, append_assoc, inl, inr}
+use Rattle.std.specs.Prelude.{slice_index, IfSome}
+use Rattle.std.specs.List.{flat_map, AllByRecursion}
 use Rattle.std.proofs.lemmas.Bool.{eqb-true}
 use Rattle.std.proofs.lemmas.Option.{same_Some}
-use Rattle.ddc_entry.specs.inside.Reading.{Reader, ◌>>=◌, both, made, tagged, none_at, given}
+use Rattle.ddc_entry.specs.Spelling.{optional}
+use Rattle.ddc_entry.specs.inside.Reading.{Reader, ◌>>=◌, both, made, tagged, none_at, given, optional_at, many_at, counted_at}
 
 abbrev pub IsBytes : List ℕ → Type 0
 IsBytes bytes = (i : ℕ) → slice_index bytes i < 256
@@ -105,3 +107,60 @@ made_takes {A} {B} tag read p P build q Q spelled fits u bytes b rest small e =
 
 pub made_again : {A B : Type 0} (read : Reader A) (p : A → List ℕ) (P : A → Type 0) (build : A → B) → Undoes read p P → (a : A) (rest : List ℕ) → P a → made build read (p a ++ rest) ≡ Some (build a, rest)
 made_again read p P build u a rest fit = rw (u.again a rest fit) refl
+
+-- ---- a part that may be absent
+
+optional_again : {A : Type 0} (read : Reader A) (p : A → List ℕ) (P : A → Type 0) → Undoes read p P → Again (optional_at read) (optional p) (λ o. IfSome o P)
+unfolding optional_at
+optional_again read p P u None rest fit = refl
+optional_again read p P u (Some a) rest fit = made_again read p P Some u a rest fit
+
+pub optional_undoes : {A : Type 0} (read : Reader A) (p : A → List ℕ) (P : A → Type 0) → Undoes read p P → Undoes (optional_at read) (optional p) (λ o. IfSome o P)
+unfolding optional_at
+optional_undoes read p P u = record {
+  takes = tagged_takes 0 (given None) (tagged 1 (made Some read) none_at) (optional p) (λ o. IfSome o P)
+      (given_takes 0 None (optional p) (λ o. IfSome o P) refl tt)
+      (tagged_takes 1 (made Some read) none_at (optional p) (λ o. IfSome o P)
+      (made_takes 1 read p P Some (optional p) (λ o. IfSome o P) (λ a. refl) (λ a h. h) u) (nothing_takes (optional p) (λ o. IfSome o P)));
+  again = optional_again read p P u;
+}
+
+-- ---- several parts
+
+many_take : {A : Type 0} (read : Reader A) (p : A → List ℕ) (P : A → Type 0) → Undoes read p P → (n : ℕ) (bytes : List ℕ) (items : List A) (rest : List ℕ) → IsBytes bytes → many_at read n bytes ≡ Some (items, rest)
+    → (bytes ≡ flat_map p items ++ rest) × (length items ≡ n) × AllByRecursion P items
+unfolding many_at
+many_take {A} read p P u zero bytes items rest small e =
+    subst (λ (y : List A × List ℕ). (bytes ≡ flat_map p y.0 ++ y.1) × (length y.0 ≡ 0) × AllByRecursion P y.0) (same_Some ([], bytes) (items, rest) e) (refl, refl, tt)
+many_take {A} read p P u (suc n) bytes items rest small e =
+    let a = bind_some (read bytes) (λ first. many_at read n first.1 >>= λ others. Some (first.0 ∷ others.0, others.1)) (items, rest) e in
+    let b = bind_some (many_at read n a.0.1) (λ others. Some (a.0.0 ∷ others.0, others.1)) (items, rest) a.2 in
+    let first = u.takes bytes a.0.0 a.0.1 small a.1 in
+    let behind : IsBytes (p a.0.0 ++ a.0.1) = subst (λ (t : List ℕ). IsBytes t) first.0 small in
+    let others = many_take read p P u n a.0.1 b.0.0 b.0.1 (back_bytes (p a.0.0) a.0.1 behind) b.1 in
+    let cut : bytes ≡ flat_map p (a.0.0 ∷ b.0.0) ++ b.0.1 = first.0 ∙ ap (λ (t : List ℕ). p a.0.0 ++ t) others.0 ∙ sym (append_assoc (p a.0.0) (flat_map p b.0.0) b.0.1) in
+    subst (λ (y : List A × List ℕ). (bytes ≡ flat_map p y.0 ++ y.1) × (length y.0 ≡ suc n) × AllByRecursion P y.0) (same_Some (a.0.0 ∷ b.0.0, b.0.1) (items, rest) b.2) (cut, ap suc others.1, (first.1, others.2))
+
+many_again : {A : Type 0} (read : Reader A) (p : A → List ℕ) (P : A → Type 0) → Undoes read p P → (items : List A) (rest : List ℕ) → AllByRecursion P items → many_at read (length items) (flat_map p items ++ rest) ≡ Some (items, rest)
+unfolding many_at
+many_again read p P u [] rest fit = refl
+many_again read p P u (a ∷ items) rest fit =
+    ap (many_at read (suc (length items))) (append_assoc (p a) (flat_map p items) rest) ∙ rw (u.again a (flat_map p items ++ rest) fit.0, many_again read p P u items rest fit.1) refl
+
+-- a count and so many parts
+pub counted_undo : {A : Type 0} (count : Reader ℕ) (k : ℕ → List ℕ) (K : ℕ → Type 0) (read : Reader A) (p : A → List ℕ) (P : A → Type 0) → Undoes count k K → Undoes read p P
+    → Undoes (counted_at count read) (λ items. k (length items) ++ flat_map p items) (λ items. K (length items) × AllByRecursion P items)
+unfolding counted_at
+counted_undo count k K read p P v u = record {
+  takes = λ bytes items rest small e.
+      let n = bind_some (count bytes) (λ n. many_at read n.0 n.1) (items, rest) e in
+      let front = v.takes bytes n.0.0 n.0.1 small n.1 in
+      let behind : IsBytes (k n.0.0 ++ n.0.1) = subst (λ (t : List ℕ). IsBytes t) front.0 small in
+      let later = many_take read p P u n.0.0 n.0.1 items rest (back_bytes (k n.0.0) n.0.1 behind) n.2 in
+      let cut : bytes ≡ (k n.0.0 ++ flat_map p items) ++ rest = front.0 ∙ ap (λ (t : List ℕ). k n.0.0 ++ t) later.0 ∙ sym (append_assoc (k n.0.0) (flat_map p items) rest) in
+      subst (λ (m : ℕ). (bytes ≡ (k m ++ flat_map p items) ++ rest) × (K m × AllByRecursion P items)) (sym later.1) (cut, (front.1, later.2));
+  again = λ items rest fit.
+      ap (counted_at count read) (append_assoc (k (length items)) (flat_map p items) rest)
+      ∙ ap (λ (r : Option (ℕ × List ℕ)). r >>= λ n. many_at read n.0 n.1) (v.again (length items) (flat_map p items ++ rest) fit.0)
+      ∙ many_again read p P u items rest fit.1;
+}

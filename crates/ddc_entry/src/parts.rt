@@ -4,11 +4,12 @@ ghost use Rattle.std.specs.Prelude.{◌≡◌, option_map};
 ghost use Rattle.std.specs.Result.{result_ok};
 ghost use Rattle.ddc_names.specs.Names.{name_of};
 ghost use Rattle.ddc_entry.specs.declared.parts.Unread.TheVariants.{NoMemory};
-ghost use Rattle.ddc_entry.specs.inside.Reading.{ReadsAs, counted_links_at, eight_at, flag_at, four_at, fresh_at, hash_at, key_at, kind_at, link_at, links_at, name_at, ref_name_at, sized_at, spot_at, stored_at};
+ghost use Rattle.ddc_entry.specs.inside.Reading.{ReadsAs, count_at, counted_at, eight_at, flag_at, four_at, hash_at, key_at, kind_at, link_at, many_at, name_at, op_at, optional_at, ref_name_at, sized_at, spot_at, stored_at};
 
 use cb_fields::{Link, LinkKind};
 use ddc_model::Stored;
 use ddc_names::{Bucket, IoHash, Namespace, RefKey, RefName, RefSpot, Rows};
+use replication_log::EventOp;
 use std::alloc::{AllocError, AllocFailed, Global};
 use std::str;
 
@@ -55,7 +56,7 @@ pub fn take_four(bytes: &[u8]) -> Result<(u32, &[u8]), Unread>
 }
 
 #[tactic(auto, unfolding(crate::specs::inside::Reading::eight_at, crate::specs::inside::Reading::bytes_at))]
-fn take_eight(bytes: &[u8]) -> Result<(u64, &[u8]), Unread>
+pub fn take_eight(bytes: &[u8]) -> Result<(u64, &[u8]), Unread>
     ensures { ReadsAs (λ x. (x.0, x.1.now)) result (eight_at bytes.now) }
 {
     match bytes.split_first_chunk::<8>() {
@@ -145,7 +146,7 @@ fn take_key(bytes: &[u8]) -> Option<(RefKey, &[u8])>
 }
 
 #[tactic(auto, unfolding(crate::specs::inside::Reading::spot_at))]
-fn take_spot(bytes: &[u8]) -> Option<(RefSpot, &[u8])>
+pub fn take_spot(bytes: &[u8]) -> Option<(RefSpot, &[u8])>
     ensures { option_map (λ x. (x.0, x.1.now)) result ≡ spot_at bytes.now }
 {
     let Some((bucket, rest)) = take_bucket(bytes) else {
@@ -201,7 +202,7 @@ fn take_link(bytes: &[u8]) -> Result<(Link, &[u8]), Unread>
 
 // The list takes memory for the links that were read alone, whatever the count says.
 fn take_links(alloc: Global, count: u32, bytes: &[u8]) -> Result<(Vec<Link>, &[u8]), Unread>
-    ensures { ReadsAs (λ x. (x.0.items, x.1.now)) result (links_at count bytes.now) }
+    ensures { ReadsAs (λ x. (x.0.items, x.1.now)) result (many_at link_at count bytes.now) }
 {
     let mut links = Vec::new(alloc);
     let mut rest = bytes;
@@ -213,9 +214,9 @@ fn take_links(alloc: Global, count: u32, bytes: &[u8]) -> Result<(Vec<Link>, &[u
     Ok((links, rest))
 }
 
-#[tactic(auto, unfolding(crate::specs::inside::Reading::counted_links_at))]
+#[tactic(auto, unfolding(crate::specs::inside::Reading::counted_at))]
 fn take_counted_links(alloc: Global, bytes: &[u8]) -> Result<(Rows<Link>, &[u8]), Unread>
-    ensures { ReadsAs (λ x. (x.0, x.1.now)) result (counted_links_at bytes.now) }
+    ensures { ReadsAs (λ x. (x.0, x.1.now)) result (counted_at four_at link_at bytes.now) }
 {
     let (count, rest) = take_four(bytes)?;
     let (links, rest) = take_links(alloc, count, rest)?;
@@ -242,9 +243,9 @@ pub fn take_stored(alloc: Global, bytes: &[u8]) -> Result<(Stored, &[u8]), Unrea
 }
 
 // The byte 0, or 1 and a blob.
-#[tactic(auto, unfolding(crate::specs::inside::Reading::fresh_at))]
+#[tactic(auto, unfolding(crate::specs::inside::Reading::optional_at))]
 pub fn take_fresh(alloc: Global, bytes: &[u8]) -> Result<(Option<Stored>, &[u8]), Unread>
-    ensures { ReadsAs (λ x. (x.0, x.1.now)) result (fresh_at bytes.now) }
+    ensures { ReadsAs (λ x. (x.0, x.1.now)) result (optional_at stored_at bytes.now) }
 {
     match bytes {
         [0, rest @ ..] => Ok((None, rest)),
@@ -254,4 +255,108 @@ pub fn take_fresh(alloc: Global, bytes: &[u8]) -> Result<(Option<Stored>, &[u8])
         }
         _ => Err(Unread::Refused),
     }
+}
+
+// The byte 0, or 1 and a hash.
+#[tactic(auto, unfolding(crate::specs::inside::Reading::optional_at))]
+pub fn take_optional_hash(bytes: &[u8]) -> Result<(Option<IoHash>, &[u8]), Unread>
+    ensures { ReadsAs (λ x. (x.0, x.1.now)) result (optional_at hash_at bytes.now) }
+{
+    match bytes {
+        [0, rest @ ..] => Ok((None, rest)),
+        [1, rest @ ..] => {
+            let (hash, rest) = take_hash(rest)?;
+            Ok((Some(hash), rest))
+        }
+        _ => Err(Unread::Refused),
+    }
+}
+
+// The byte 0, or 1 and a spot.
+#[tactic(auto, unfolding(crate::specs::inside::Reading::optional_at))]
+pub fn take_optional_spot(bytes: &[u8]) -> Option<(Option<RefSpot>, &[u8])>
+    ensures { option_map (λ x. (x.0, x.1.now)) result ≡ optional_at spot_at bytes.now }
+{
+    match bytes {
+        [0, rest @ ..] => Some((None, rest)),
+        [1, rest @ ..] => {
+            let Some((spot, rest)) = take_spot(rest) else {
+                return None;
+            };
+            Some((Some(spot), rest))
+        }
+        _ => None,
+    }
+}
+
+// The byte 0 and a hash, or 1.
+#[tactic(auto, unfolding(crate::specs::inside::Reading::op_at))]
+pub fn take_op(bytes: &[u8]) -> Result<(EventOp, &[u8]), Unread>
+    ensures { ReadsAs (λ x. (x.0, x.1.now)) result (op_at bytes.now) }
+{
+    match bytes {
+        [0, rest @ ..] => {
+            let (object, rest) = take_hash(rest)?;
+            Ok((EventOp::Added(object), rest))
+        }
+        [1, rest @ ..] => Ok((EventOp::Deleted, rest)),
+        _ => Err(Unread::Refused),
+    }
+}
+
+// A count of 1 to 64.
+#[tactic(auto, unfolding(crate::specs::inside::Reading::count_at))]
+fn take_count(bytes: &[u8]) -> Result<(u8, &[u8]), Unread>
+    ensures { ReadsAs (λ x. (x.0, x.1.now)) result (count_at bytes.now) }
+{
+    match bytes {
+        [count @ 1..=64, rest @ ..] => Ok((*count, rest)),
+        _ => Err(Unread::Refused),
+    }
+}
+
+fn take_spots(alloc: Global, count: u8, bytes: &[u8]) -> Result<(Vec<RefSpot>, &[u8]), Unread>
+    ensures { ReadsAs (λ x. (x.0.items, x.1.now)) result (many_at spot_at count bytes.now) }
+{
+    let mut spots = Vec::new(alloc);
+    let mut rest = bytes;
+    for _ in 0..count {
+        let Some((spot, behind)) = take_spot(rest) else {
+            return Err(Unread::Refused);
+        };
+        spots.push(spot)?;
+        rest = behind;
+    }
+    Ok((spots, rest))
+}
+
+fn take_hashes(alloc: Global, count: u8, bytes: &[u8]) -> Result<(Vec<IoHash>, &[u8]), Unread>
+    ensures { ReadsAs (λ x. (x.0.items, x.1.now)) result (many_at hash_at count bytes.now) }
+{
+    let mut hashes = Vec::new(alloc);
+    let mut rest = bytes;
+    for _ in 0..count {
+        let (hash, behind) = take_hash(rest)?;
+        hashes.push(hash)?;
+        rest = behind;
+    }
+    Ok((hashes, rest))
+}
+
+#[tactic(auto, unfolding(crate::specs::inside::Reading::counted_at))]
+pub fn take_counted_spots(alloc: Global, bytes: &[u8]) -> Result<(Rows<RefSpot>, &[u8]), Unread>
+    ensures { ReadsAs (λ x. (x.0, x.1.now)) result (counted_at count_at spot_at bytes.now) }
+{
+    let (count, rest) = take_count(bytes)?;
+    let (spots, rest) = take_spots(alloc, count, rest)?;
+    Ok((Rows::of_vec(spots), rest))
+}
+
+#[tactic(auto, unfolding(crate::specs::inside::Reading::counted_at))]
+pub fn take_counted_hashes(alloc: Global, bytes: &[u8]) -> Result<(Rows<IoHash>, &[u8]), Unread>
+    ensures { ReadsAs (λ x. (x.0, x.1.now)) result (counted_at count_at hash_at bytes.now) }
+{
+    let (count, rest) = take_count(bytes)?;
+    let (hashes, rest) = take_hashes(alloc, count, rest)?;
+    Ok((Rows::of_vec(hashes), rest))
 }

@@ -3,13 +3,15 @@
 ghost use Rattle.std.specs.Prelude.{◌≡◌, Some, IfSome, IfOk};
 ghost use Rattle.ddc_model.specs.declared.entry.Entry.{Entry};
 ghost use Rattle.ddc_entry.specs.Spelling.{spelling, IsEntry};
-ghost use Rattle.ddc_entry.specs.inside.Reading.{ReadsAs, delete_at, entry_at, finalise_at, put_at, repin_at, space_at, touch_at, upload_at};
+ghost use Rattle.ddc_entry.specs.inside.Reading.{ReadsAs, base_event_at, base_hour_at, base_slot_at, cursor_at, delete_at, entry_at, expire_at, finalise_at, put_at, repin_at, space_at, swept_at, touch_at, upload_at};
 
 use crate::parts::{
-    Unread, take_flag, take_four, take_fresh, take_hash, take_ref_name, take_space, take_stored,
+    Unread, take_counted_hashes, take_counted_spots, take_eight, take_flag, take_four, take_fresh,
+    take_hash, take_op, take_optional_hash, take_optional_spot, take_ref_name, take_space,
+    take_spot, take_stored,
 };
-use ddc_model::{Entry, NameBox};
-use ddc_names::NoMemory;
+use ddc_model::{Cursor, CursorBox, Entry, NameBox};
+use ddc_names::{NoMemory, RefName};
 use std::alloc::Global;
 
 #[tactic(auto, unfolding(crate::specs::inside::Reading::space_at))]
@@ -109,6 +111,98 @@ fn touch_of(alloc: Global, bytes: &[u8]) -> Result<(Entry, &[u8]), Unread>
     Ok((Entry::Touch { name, hour }, rest))
 }
 
+#[tactic(auto, unfolding(crate::specs::inside::Reading::expire_at))]
+fn expire_of(alloc: Global, bytes: &[u8]) -> Result<(Entry, &[u8]), Unread>
+    ensures { ReadsAs (λ x. (x.0, x.1.now)) result (expire_at bytes.now) }
+{
+    let Some((space, rest)) = take_space(bytes) else {
+        return Err(Unread::Refused);
+    };
+    let (spots, rest) = take_counted_spots(alloc, rest)?;
+    let (hour, rest) = take_four(rest)?;
+    Ok((Entry::Expire { space, spots, hour }, rest))
+}
+
+#[tactic(auto, unfolding(crate::specs::inside::Reading::swept_at))]
+fn swept_of(alloc: Global, bytes: &[u8]) -> Result<(Entry, &[u8]), Unread>
+    ensures { ReadsAs (λ x. (x.0, x.1.now)) result (swept_at bytes.now) }
+{
+    let Some((space, rest)) = take_space(bytes) else {
+        return Err(Unread::Refused);
+    };
+    let (hashes, rest) = take_counted_hashes(alloc, rest)?;
+    Ok((Entry::Swept { space, hashes }, rest))
+}
+
+#[tactic(auto, unfolding(crate::specs::inside::Reading::cursor_at))]
+fn cursor_of(alloc: Global, bytes: &[u8]) -> Result<(Entry, &[u8]), Unread>
+    ensures { ReadsAs (λ x. (x.0, x.1.now)) result (cursor_at bytes.now) }
+{
+    let Some((space, rest)) = take_space(bytes) else {
+        return Err(Unread::Refused);
+    };
+    let (walking, rest) = take_flag(rest)?;
+    let (after, rest) = take_eight(rest)?;
+    let (top, rest) = take_eight(rest)?;
+    let Some((from, rest)) = take_optional_spot(rest) else {
+        return Err(Unread::Refused);
+    };
+    let cursor = Cursor {
+        walking,
+        after,
+        top,
+        from,
+    };
+    let cursor = CursorBox::new(alloc, cursor)?;
+    Ok((Entry::Cursor { space, cursor }, rest))
+}
+
+#[tactic(auto, unfolding(crate::specs::inside::Reading::base_hour_at))]
+fn base_hour_of(bytes: &[u8]) -> Result<(Entry, &[u8]), Unread>
+    ensures { ReadsAs (λ x. (x.0, x.1.now)) result (base_hour_at bytes.now) }
+{
+    let (hour, rest) = take_four(bytes)?;
+    Ok((Entry::BaseHour { hour }, rest))
+}
+
+#[tactic(auto, unfolding(crate::specs::inside::Reading::base_slot_at))]
+fn base_slot_of(alloc: Global, bytes: &[u8]) -> Result<(Entry, &[u8]), Unread>
+    ensures { ReadsAs (λ x. (x.0, x.1.now)) result (base_slot_at bytes.now) }
+{
+    let Some((name, rest)) = take_ref_name(bytes) else {
+        return Err(Unread::Refused);
+    };
+    let (done, rest) = take_optional_hash(rest)?;
+    let (pending, rest) = take_optional_hash(rest)?;
+    let (seen, rest) = take_four(rest)?;
+    let name = NameBox::new(alloc, name)?;
+    Ok((
+        Entry::BaseSlot {
+            name,
+            done,
+            pending,
+            seen,
+        },
+        rest,
+    ))
+}
+
+#[tactic(auto, unfolding(crate::specs::inside::Reading::base_event_at))]
+fn base_event_of(alloc: Global, bytes: &[u8]) -> Result<(Entry, &[u8]), Unread>
+    ensures { ReadsAs (λ x. (x.0, x.1.now)) result (base_event_at bytes.now) }
+{
+    let Some((space, rest)) = take_space(bytes) else {
+        return Err(Unread::Refused);
+    };
+    let (number, rest) = take_eight(rest)?;
+    let Some((spot, rest)) = take_spot(rest) else {
+        return Err(Unread::Refused);
+    };
+    let (op, rest) = take_op(rest)?;
+    let name = NameBox::new(alloc, RefName { space, spot })?;
+    Ok((Entry::BaseEvent { name, number, op }, rest))
+}
+
 #[tactic(auto, unfolding(crate::specs::inside::Reading::entry_at))]
 fn take_entry(alloc: Global, bytes: &[u8]) -> Result<(Entry, &[u8]), Unread>
     ensures { ReadsAs (λ x. (x.0, x.1.now)) result (entry_at bytes.now) }
@@ -121,6 +215,12 @@ fn take_entry(alloc: Global, bytes: &[u8]) -> Result<(Entry, &[u8]), Unread>
         [0x05, rest @ ..] => finalise_of(alloc, rest),
         [0x06, rest @ ..] => delete_of(alloc, rest),
         [0x07, rest @ ..] => touch_of(alloc, rest),
+        [0x08, rest @ ..] => expire_of(alloc, rest),
+        [0x09, rest @ ..] => swept_of(alloc, rest),
+        [0x0a, rest @ ..] => cursor_of(alloc, rest),
+        [0x0b, rest @ ..] => base_hour_of(rest),
+        [0x0c, rest @ ..] => base_slot_of(alloc, rest),
+        [0x0d, rest @ ..] => base_event_of(alloc, rest),
         _ => Err(Unread::Refused),
     }
 }
@@ -130,7 +230,8 @@ fn take_entry(alloc: Global, bytes: &[u8]) -> Result<(Entry, &[u8]), Unread>
 ///
 /// # Errors
 ///
-/// `NoMemory` where there is none for the links of a blob or the name of a reference.
+/// `NoMemory` where there is none for the links of a blob, the name of a reference, a cursor, or the references or
+/// blobs that are taken away.
 pub fn read_entry(alloc: Global, bytes: &[u8]) -> Result<Option<Entry>, NoMemory>
     ensures found_is_spelled { IfOk result (λ found. IfSome found (λ e. IsEntry e × (bytes.now ≡ spelling e))) }
     ensures spelled_is_found { IfOk result (λ found. (e : Entry) → IsEntry e → bytes.now ≡ spelling e → found ≡ Some e) }

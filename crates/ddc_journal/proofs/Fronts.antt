@@ -1,9 +1,9 @@
 -- What the first bytes of a file say of it.
 use Rattle.std.proofs.Common.{◌≡◌, inl, inr, ℕ, List, ◌∷◌, ◌++◌, length, take, drop, sym, ◌∙◌, ap, subst, arith, take-append-drop, append_assoc, length-append}
-use Rattle.std.specs.Prelude.{Bool, ◌&&◌, ◌==◌, not, slice_index}
+use Rattle.std.specs.Prelude.{◌&&◌, ◌==◌, not, slice_index}
 use Rattle.std.specs.Int.{from_le_bytes, w32, w64}
 use Rattle.std.proofs.lemmas.List.{drop-take, get_or-take, length-take, take-take}
-use Rattle.ddc_journal.specs.Journal.{magic, head_bytes, version_in, generation_in, is_made}
+use Rattle.ddc_journal.specs.Journal.{head_bytes, version_in, generation_in, is_made}
 use Rattle.ddc_journal.specs.Faults.{FileFault, IsKnown}
 use Rattle.ddc_journal.specs.inside.Scanning.{HeadFault, IsOpen}
 use Rattle.ddc_journal.specs.declared.kind.FileKind.{FileKind}

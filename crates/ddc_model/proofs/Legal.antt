@@ -1,31 +1,33 @@
 -- That the entries which commands make are legal.
-use Rattle.std.specs.Prelude.{◌≡◌, ℕ, ◌≤◌, ◌+◌, Bool, true, false, not, ◌&&◌, ◌||◌, List, [], ◌∷◌, length, Option, None, Some, is_some, nat_eq, nat_le, if◌then◌else◌, refl}
+use Rattle.std.specs.Prelude.{◌≡◌, ℕ, ◌≤◌, ◌+◌, Bool, true, false, not, ◌&&◌, ◌||◌, List, [], ◌∷◌, length, Option, None, Some, is_some, nat_eq, nat_le, nat_lt, Ok, Err, if◌then◌else◌, refl}
 use Rattle.std.proofs.Common.{ap, arith}
 use Rattle.std.proofs.lemmas.Bool.Decides.{nat_tests}
-use Rattle.std.specs.FinMap.{entries, len}
+use Rattle.std.specs.FinMap.{entries, get, len}
 use Rattle.std.specs.Option.{unwrap_or}
 use lib.Pointwise.{pointwise}
 use Rattle.ddc_names.specs.declared.hash.IoHash.{IoHash}
+use Rattle.ref_store.specs.declared.slot.Slot.{Slot}
 use Rattle.ddc_model.specs.declared.rows.Blob.{Blob}
 use Rattle.ddc_model.specs.declared.rows.BlobName.{BlobName}
 use Rattle.ddc_model.specs.declared.rows.Extent.{Extent}
 use Rattle.ddc_model.specs.declared.entry.Entry.{Entry}
-use Rattle.ddc_model.specs.declared.entry.Entry.TheVariants.{Upload}
+use Rattle.ddc_model.specs.declared.entry.Entry.TheVariants.{Upload, Finalise, Delete}
 use Rattle.ddc_model.specs.declared.fault.StoreFault.{StoreFault}
-use Rattle.ddc_model.specs.declared.fault.StoreFault.TheVariants.{Full}
+use Rattle.ddc_model.specs.declared.fault.StoreFault.TheVariants.{Full, HistoryFull, UnknownSpace, NotPending}
 use Rattle.ddc_model.specs.declared.fault.What.TheVariants.{Spaces, Blobs, Refs, Links, Units}
 use Rattle.ddc_model.specs.Limits.{most_bytes, most_links}
-use Rattle.ddc_model.specs.State.{State, blob_at}
+use Rattle.ddc_model.specs.State.{State, blob_at, done_of, has_space, pending_of}
 use Rattle.ddc_model.specs.Extents.{units_of, extent, is_apart_from_all, is_free, first_that, free_run}
-use Rattle.ddc_model.specs.Entries.{same_hash, is_fresh, is_root}
+use Rattle.ddc_model.specs.Entries.{has_room_for_events, is_hash, same_hash, is_fresh, is_root}
 use Rattle.ddc_model.specs.Counts.{full, fresh_of, lacks_run, passes, link_count, added_spaces, added_blobs, added_refs, added_links}
 use Rattle.ddc_model.specs.Content.{Content, IsContent, content_hash}
-use Rattle.ddc_model.specs.Commands.{hour_of, stored_content, fresh_where, put_entry}
-use Rattle.ddc_model.specs.Laws.{IsLegal, UploadIsLegal, PutIsLegal, DeleteIsLegal}
+use Rattle.ddc_model.specs.Commands.{done_at, done_hash, hour_of, is_done_at, stored_content, fresh_where, put_entry}
+use Rattle.ddc_model.specs.History.{Past, no_room_for}
+use Rattle.ddc_model.specs.Laws.{IsLegal, SpaceIsLegal, UploadIsLegal, PutIsLegal, FinaliseIsLegal, GetIsLegal, DeleteIsLegal}
 use Rattle.ddc_model.proofs.Fit.{links_take_bytes}
 use Rattle.ddc_model.proofs.Maps.{same_some}
 use Rattle.ddc_model.proofs.Placed.{is_zero, passes_test}
-use Rattle.ddc_model.proofs.Made.{made_by_upload, made_by_put, made_by_delete}
+use Rattle.ddc_model.proofs.Made.{made_by_space, made_by_upload, made_by_put, made_by_finalise, made_by_get, made_by_delete}
 
 at_most : (a b : ℕ) → a ≤ b → nat_le a b ≡ true
 at_most a b h = grind (arith, nat_tests)
@@ -101,15 +103,64 @@ module _ (s : State) (space : List ℕ) (content : Content) (read : IsContent co
   root_fits None runs is = both _ _ (is_this (content_hash content.bytes)) (fresh runs is)
   root_fits (Some blob) runs is = ap is_some is
 
+-- what a history has room for has numbers for its events
+roomy : (a b fits : Bool) (fault : StoreFault) → (if a || b || not fits then Some fault else None) ≡ None → fits ≡ true
+roomy a b true fault e = refl
+roomy true b false fault e = absurd (cc)
+roomy false true false fault e = absurd (cc)
+roomy false false false fault e = absurd (cc)
+
+has_numbers : (s : State) (past : Past) (entry : Entry) → no_room_for s past (Some entry) ≡ None → has_room_for_events s entry ≡ true
+has_numbers s past entry e =
+    roomy (nat_lt s.limits.entries (past.entries + 1)) (nat_lt s.limits.entry_links (past.links + added_links (fresh_of entry))) (has_room_for_events s entry) (HistoryFull past.entries past.links) e
+
+-- an entry is legal where the history has room for it
+abbrev LegalWithRoom : State → Past → Option Entry → Type 0
+LegalWithRoom s past made = no_room_for s past made ≡ None → IsLegal s made
+
+pub space_legal : SpaceIsLegal
+space_legal s space ttl pin answer made is_ttl is_pin gives = made_by_space (IsLegal s) tt s space ttl pin (both _ _ is_ttl is_pin) answer made gives
+
 pub upload_legal : UploadIsLegal
 upload_legal s space content hour answer made read short gives =
     made_by_upload (IsLegal s) tt s space content hour
     (λ known room none. both _ _ known (fresh s space content read short (room_has_run s (Upload space (stored_content s content) (hour_of s hour)) room) none)) (λ known blob is. both _ _ known (ap is_some is)) answer made gives
 
 pub put_legal : PutIsLegal
-put_legal s name content hour answer made read short gives =
-    made_by_put (IsLegal s) tt s name content hour
-    (λ known room needs are. both _ _ known (root_fits s name.space content read short (blob_at s name.space (content_hash content.bytes)) (room_has_run s (put_entry s name content [] hour) room) refl)) answer made gives
+put_legal s past name content hour answer made read short gives =
+    made_by_put (LegalWithRoom s past) (λ e. tt) s name content hour
+    (λ known room needs are free. both _ _ (has_numbers s past (put_entry s name content needs hour) free)
+    (both _ _ known (root_fits s name.space content read short (blob_at s name.space (content_hash content.bytes)) (room_has_run s (put_entry s name content [] hour) room) refl))) answer made gives
+
+-- a reference waits for the object that is_done says is pending
+waits : (there : Bool) (found : Option Slot) (hash : IoHash) → (if there then is_done_at found hash else Err UnknownSpace) ≡ Ok false → (there && is_hash (pending_of found) hash) ≡ true
+waits false found hash e = absurd (cc)
+waits true None hash e = absurd (cc)
+waits true (Some slot) hash e = split (is_hash slot.done hash) (is_hash slot.pending hash) e where
+  split : (done pending : Bool) → (if done then Ok true else if pending then Ok false else Err NotPending) ≡ Ok false → pending ≡ true
+  split true pending e = absurd (cc)
+  split false true e = refl
+  split false false e = absurd (cc)
+
+pub finalise_legal : FinaliseIsLegal
+finalise_legal s past name hash hour answer made gives =
+    made_by_finalise (LegalWithRoom s past) (λ e. tt) s name hash hour
+    (λ known are free. both _ _ (has_numbers s past (Finalise name hash (hour_of s hour)) free) (waits (has_space s name.space) (get s.slots name) hash known)) answer made gives
+
+-- a reference serves the object that object_of says
+serves : (there : Bool) (found : Option Slot) (hash : IoHash) → (if there then done_at found else Err UnknownSpace) ≡ Ok hash → (there && is_some (done_of found)) ≡ true
+serves false found hash e = absurd (cc)
+serves true None hash e = absurd (cc)
+serves true (Some slot) hash e = split slot.done e where
+  split : (done : Option IoHash) → done_hash done ≡ Ok hash → is_some done ≡ true
+  split (Some object) e = refl
+  split None e = absurd (cc)
+
+pub get_legal : GetIsLegal
+get_legal cache name hour answer made gives =
+    made_by_get (IsLegal cache.index) tt cache name hour (λ hash known. serves (has_space cache.index name.space) (get cache.index.slots name) hash known) answer made gives
 
 pub delete_legal : DeleteIsLegal
-delete_legal s name hour answer made gives = made_by_delete (IsLegal s) tt s name hour (λ known there. both _ _ known there) answer made gives
+delete_legal s past name hour answer made gives =
+    made_by_delete (LegalWithRoom s past) (λ e. tt) s name hour
+    (λ known there free. both _ _ (has_numbers s past (Delete name (hour_of s hour)) free) (both _ _ known there)) answer made gives

@@ -93,13 +93,13 @@ module _ (P : Option Entry → Type 0) (none : P None) (s : State) where
     by_cases true known given = by_slot known (is_some (get s.slots name)) refl given
     by_cases false known (_, is) = subst P (sym is) none
 
-pub made_by_get : (P : Option Entry → Type 0) → P None → (cache : Cache) (name : RefName) (hour : ℕ) → P (Some (Touch name (hour_of cache.index hour)))
+pub made_by_get : (P : Option Entry → Type 0) → P None → (cache : Cache) (name : RefName) (hour : ℕ) → ((hash : IoHash) → object_of cache.index name ≡ Ok hash → P (Some (Touch name (hour_of cache.index hour))))
     → (answer : Result (IoHash × List ℕ) StoreFault) (made : Option Entry) → GetAs cache name hour answer made → P made
-made_by_get P none cache name hour some answer made gives = by_cases (object_of cache.index name) gives where
-  touched : (found : Option Slot) → P (touch_where found name (hour_of cache.index hour))
-  touched None = none
-  touched (Some slot) = if_made P none cache.index (nat_lt slot.seen (hour_of cache.index hour)) (Touch name (hour_of cache.index hour)) some
+made_by_get P none cache name hour some answer made gives = by_cases (object_of cache.index name) refl gives where
+  touched : P (Some (Touch name (hour_of cache.index hour))) → (found : Option Slot) → P (touch_where found name (hour_of cache.index hour))
+  touched touch None = none
+  touched touch (Some slot) = if_made P none cache.index (nat_lt slot.seen (hour_of cache.index hour)) (Touch name (hour_of cache.index hour)) touch
 
-  by_cases : (known : Result IoHash StoreFault) → GetWhere known cache name hour answer made → P made
-  by_cases (Err fault) (_, is) = subst P (sym is) none
-  by_cases (Ok hash) (bytes, _, _, is) = subst P (sym is) (touched (get cache.index.slots name))
+  by_cases : (known : Result IoHash StoreFault) → object_of cache.index name ≡ known → GetWhere known cache name hour answer made → P made
+  by_cases (Err fault) known (_, is) = subst P (sym is) none
+  by_cases (Ok hash) known (bytes, _, _, is) = subst P (sym is) (touched (some hash known) (get cache.index.slots name))

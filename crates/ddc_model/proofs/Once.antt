@@ -106,24 +106,26 @@ needs_once links root needs others a b = same_lists needs others a.ascending b.a
 no_some : {A : Type 0} (o : Option A) (x : A) → o ≡ None → o ≡ Some x → ⊥
 no_some o x e f = let g : None ≡ Some x = sym e ∙ f in cc
 
-module _ (links others : Links) (root new : IoHash) (none : links new ≡ None) (same : (hash : IoHash) → (hash ≡ new → ⊥) → others hash ≡ links hash) (whole : IsWhole links root) where
-  -- what is reached isn't the blob that is new
-  not_new : (node : Link) → IsReached links root node → node.hash ≡ new → ⊥
-  not_new node reached e = whole node.hash (ap links e ∙ none, node.kind, reached)
-
+-- what is reached has the same links as before
+module _ (links others : Links) (root : IoHash) (same : (node : Link) → IsReached links root node → others node.hash ≡ links node.hash) (whole : IsWhole links root) where
   walk_back : (node : Link) (n : ℕ) → LeadsToIn others (object root) node n → LeadsToIn links (object root) node n
   walk_back node zero w = w
   walk_back node (suc n) w =
       let before : Link = w.0 in
       let walked : LeadsToIn links (object root) before n = walk_back before n w.1 in
       let leads : LeadsTo others before node = w.2 in
-      (before, walked, (leads.0, leads.1, sym (same before.hash (not_new before (n, walked))) ∙ leads.2, leads.3))
+      (before, walked, (leads.0, leads.1, sym (same before (n, walked)) ∙ leads.2, leads.3))
 
-  pub still_whole : IsWhole others root
-  still_whole hash missing =
+  pub whole_where_same : IsWhole others root
+  whole_where_same hash missing =
       let node : Link = record { kind = missing.1; hash = hash } in
       let reached : IsReached links root node = (missing.2.0, walk_back node missing.2.0 missing.2.1) in
-      whole hash (sym (same hash (not_new node reached)) ∙ missing.0, missing.1, reached)
+      whole hash (sym (same node reached) ∙ missing.0, missing.1, reached)
+
+-- what is reached isn't a blob that is new
+pub still_whole : (links others : Links) (root new : IoHash) → links new ≡ None → ((hash : IoHash) → (hash ≡ new → ⊥) → others hash ≡ links hash) → IsWhole links root → IsWhole others root
+still_whole links others root new none same whole =
+    whole_where_same links others root (λ node reached. same node.hash (λ e. whole node.hash (ap links e ∙ none, node.kind, reached))) whole
 
 pub whole_stays : WholeStaysWhole
 whole_stays links others root new none same whole = still_whole links others root new none same whole

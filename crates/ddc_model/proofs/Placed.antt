@@ -1,5 +1,5 @@
 -- That the blobs of a store keep apart in the blob file, and which runs are free.
-use Rattle.std.specs.Prelude.{◌≡◌, ℕ, zero, suc, ◌+◌, ◌≤◌, Bool, true, false, ◌&&◌, not, List, length, Option, None, Some, nat_le, nat_eq, ◌⊎◌, if◌then◌else◌, refl}
+use Rattle.std.specs.Prelude.{◌≡◌, ℕ, zero, suc, ◌+◌, ◌≤◌, Bool, true, false, ◌&&◌, not, List, [], ◌∷◌, length, Option, None, Some, nat_le, nat_eq, ◌⊎◌, if◌then◌else◌, refl}
 use Rattle.std.proofs.Common.{ap, sym, ◌∙◌, subst, inl, inr}
 use Rattle.std.proofs.lemmas.Bool.{and_parts, eqb-true, leb-true}
 use Rattle.std.specs.FinMap.{FinMap, empty, get, insert, remove, get-empty}
@@ -9,15 +9,18 @@ use Rattle.ref_store.specs.declared.slot.Slot.{Slot}
 use Rattle.ddc_model.specs.declared.rows.Blob.{Blob}
 use Rattle.ddc_model.specs.declared.rows.BlobName.{BlobName}
 use Rattle.ddc_model.specs.declared.entry.Stored.{Stored}
-use Rattle.ddc_model.specs.declared.entry.Entry.TheVariants.{Space, Upload, Repin, Put, Finalise, Delete, Touch}
+use Rattle.ddc_model.specs.declared.entry.Entry.{Entry}
+use Rattle.ddc_model.specs.declared.entry.Entry.TheVariants.{Space, Upload, Repin, Put, Finalise, Delete, Touch, Expire, Swept, Cursor, BaseHour, BaseSlot, BaseEvent}
 use Rattle.ddc_model.specs.Keys.{blob_cmp, blob_exact, blob_total}
 use Rattle.ddc_model.specs.Limits.{most_bytes, most_links}
-use Rattle.ddc_model.specs.State.{State, blob_name, has_blob, has_space}
+use Rattle.ddc_model.specs.State.{State, blob_name, done_of, has_blob, has_space}
 use Rattle.ddc_model.specs.Extents.{units_of, Apart, is_free, first_that, ArePlaced, IsPlaced}
 use Rattle.ddc_model.specs.ExtentLaws.{swapped, free_within, free_apart}
-use Rattle.ddc_model.specs.Entries.{blob_of, extent_of, is_fresh, is_root, pinned, same_hash, with_blob, with_pin, with_put_root, with_touch}
+use Rattle.ddc_model.specs.Entries.{blob_of, extent_of, fits_state, has_room_for_events, is_fresh, is_root, legal, pinned, same_hash, with_blob, with_pin, with_put_root, with_touch, without_blob, without_blobs}
 use Rattle.ddc_model.specs.Laws.{EmptyIsPlaced, LegalStaysPlaced}
 use Rattle.ddc_model.proofs.Maps.{get_here, get_away, get_removed, get_left, same_or_not, same_some}
+use Rattle.ddc_model.proofs.Events.{added_any, deleted_any, put_any}
+use Rattle.ddc_model.proofs.Removals.{without_any}
 use Rattle.ddc_model.proofs.Bytes.{later}
 
 pub is_zero : (n : ℕ) → nat_eq n 0 ≡ true → n ≡ 0
@@ -131,11 +134,27 @@ touch_placed : (s : State) (name : RefName) (hour : ℕ) (found : Option Slot) �
 touch_placed s name hour None placed = placed
 touch_placed s name hour (Some slot) placed = placed
 
+swept_placed : (s : State) (space : List ℕ) (hashes : List IoHash) → IsPlaced s → IsPlaced (without_blobs s space hashes)
+swept_placed s space [] placed = placed
+swept_placed s space (hash ∷ hashes) placed = swept_placed (without_blob s space hash) space hashes (removed_placed s.limits.units s.blobs (blob_name space hash) placed)
+
+-- a legal entry fits the state
+pub fits : (s : State) (entry : Entry) → legal s entry ≡ true → fits_state s entry ≡ true
+fits s entry is = (and_parts (has_room_for_events s entry) (fits_state s entry) is).1
+
 pub legal_placed : LegalStaysPlaced
 legal_placed s (Space space ttl pin) placed is = placed
 legal_placed s (Upload space blob hour) placed is = added_placed s space blob hour (and_parts (has_space s space) (is_fresh s space blob) is).1 placed
 legal_placed s (Repin space hash hour) placed is = pin_placed s space hash hour placed
-legal_placed s (Put name root fresh whole hour) placed is = root_placed s name.space root fresh hour (and_parts (has_space s name.space) (is_root s name.space root fresh) is).1 placed
-legal_placed s (Finalise name hash hour) placed is = placed
-legal_placed s (Delete name hour) placed is = placed
+legal_placed s (Put name root fresh whole hour) placed is =
+    put_any IsPlaced (with_put_root s name.space root fresh hour)
+    (λ logs. root_placed s name.space root fresh hour (and_parts (has_space s name.space) (is_root s name.space root fresh) (fits s (Put name root fresh whole hour) is)).1 placed) name root whole
+legal_placed s (Finalise name hash hour) placed is = added_any IsPlaced s (λ logs. placed) name (done_of (get s.slots name)) hash
+legal_placed s (Delete name hour) placed is = deleted_any IsPlaced (record s { slots = remove s.slots name }) (λ logs. placed) name (done_of (get s.slots name))
 legal_placed s (Touch name hour) placed is = touch_placed s name hour (get s.slots name) placed
+legal_placed s (Expire space spots hour) placed is = without_any IsPlaced s space spots (λ slots logs. placed)
+legal_placed s (Swept space hashes) placed is = swept_placed s space hashes placed
+legal_placed s (Cursor space cursor) placed is = placed
+legal_placed s (BaseHour hour) placed is = placed
+legal_placed s (BaseSlot name finalised pending seen) placed is = placed
+legal_placed s (BaseEvent name number op) placed is = placed

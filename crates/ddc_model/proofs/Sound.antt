@@ -7,16 +7,16 @@ use Rattle.ddc_names.specs.Orders.{ref_name_cmp}
 use Rattle.ddc_model.specs.declared.rows.Blob.{Blob}
 use Rattle.ddc_model.specs.declared.rows.BlobName.{BlobName}
 use Rattle.ddc_model.specs.declared.entry.Entry.{Entry}
-use Rattle.ddc_model.specs.declared.entry.Entry.TheVariants.{Put}
+use Rattle.ddc_model.specs.declared.entry.Entry.TheVariants.{Put, Expire, Swept}
 use Rattle.ddc_model.specs.Keys.{blob_cmp}
 use Rattle.ddc_model.specs.State.{State, blob_name, blob_at}
-use Rattle.ddc_model.specs.Entries.{blob_of}
+use Rattle.ddc_model.specs.Entries.{after, blob_of}
 use Rattle.ddc_model.specs.Content.{Content, IsContent, content_hash}
-use Rattle.ddc_model.specs.Sound.{Cache, IsBlobOf, IsSound}
+use Rattle.ddc_model.specs.Sound.{Cache, AreWhole, IsBlobOf, IsSound}
 use Rattle.ddc_model.specs.Commands.{hour_of, stored_content, fresh_where, needs_none, kept, changed}
-use Rattle.ddc_model.specs.Laws.{KeepsWhole, EmptyIsSound, SpaceStaysSound, UploadStaysSound, PutStaysSound, FinaliseStaysSound, GetStaysSound, DeleteStaysSound}
+use Rattle.ddc_model.specs.Laws.{KeepsWhole, EmptyIsSound, SpaceStaysSound, UploadStaysSound, PutStaysSound, FinaliseStaysSound, GetStaysSound, DeleteStaysSound, ExpireStaysSound, SweptStaysSound}
 use Rattle.ddc_model.proofs.Made.{made_by_space, made_by_upload, made_by_put, made_by_finalise, made_by_get, made_by_delete}
-use Rattle.ddc_model.proofs.Whole.{space_whole, upload_whole, put_whole, finalise_whole, get_whole, delete_whole}
+use Rattle.ddc_model.proofs.Whole.{space_whole, upload_whole, put_whole, finalise_whole, get_whole, delete_whole, expire_whole, swept_whole}
 use Rattle.ddc_model.proofs.Bytes.{Have, later, Adds, stay}
 
 blob_lasts : (name : BlobName) (blob : Blob) (bytes : List ℕ) (hour : ℕ) → IsBlobOf name blob bytes → IsBlobOf name (later blob hour) bytes
@@ -30,9 +30,8 @@ AddsBlob bytes None = ⊤
 blob_stored : (s : State) (space : List ℕ) (content : Content) (hour : ℕ) → IsContent content → IsBlobOf (blob_name space (content_hash content.bytes)) (blob_of (stored_content s content) hour) content.bytes
 blob_stored s space content hour read = record { hash = refl; length_is = refl; is_object = content.is_object; links = read }
 
-stays_sound : (cache : Cache) (bytes : List ℕ) (made : Option Entry) → IsSound cache → KeepsWhole cache.index made → AddsBlob bytes made → IsSound (changed cache bytes made)
-stays_sound cache bytes None sound keeps adds = sound
-stays_sound cache bytes (Some entry) sound keeps adds =
+entry_sound : (cache : Cache) (bytes : List ℕ) (entry : Entry) → IsSound cache → AreWhole (after cache.index entry) → Adds IsBlobOf blob_lasts entry bytes → IsSound (changed cache bytes (Some entry))
+entry_sound cache bytes entry sound whole adds =
     let before : Have IsBlobOf cache.index.blobs sound.all = record { each = sound.blobs; none_else = sound.none_else } in
     let now = stay IsBlobOf blob_lasts cache.index sound.all entry bytes before adds in
     record {
@@ -40,8 +39,12 @@ stays_sound cache bytes (Some entry) sound keeps adds =
       told = ap (option_map (λ (all : FinMap blob_cmp (List ℕ)). kept all entry bytes)) sound.told;
       blobs = now.each;
       none_else = now.none_else;
-      whole = keeps.1;
+      whole = whole;
     }
+
+stays_sound : (cache : Cache) (bytes : List ℕ) (made : Option Entry) → IsSound cache → KeepsWhole cache.index made → AddsBlob bytes made → IsSound (changed cache bytes made)
+stays_sound cache bytes None sound keeps adds = sound
+stays_sound cache bytes (Some entry) sound keeps adds = entry_sound cache bytes entry sound keeps.1 adds
 
 -- ---- the laws
 
@@ -82,9 +85,15 @@ finalise_sound cache name hash hour answer made sound gives =
 pub get_sound : GetStaysSound
 get_sound cache name hour answer made sound gives =
     stays_sound cache [] made sound (get_whole cache name hour answer made sound.whole gives)
-    (made_by_get (AddsBlob []) tt cache name hour tt answer made gives)
+    (made_by_get (AddsBlob []) tt cache name hour (λ hash known. tt) answer made gives)
 
 pub delete_sound : DeleteStaysSound
 delete_sound cache name hour answer made sound gives =
     stays_sound cache [] made sound (delete_whole cache.index name hour answer made sound.whole gives)
     (made_by_delete (AddsBlob []) tt cache.index name hour (λ known there. tt) answer made gives)
+
+pub expire_sound : ExpireStaysSound
+expire_sound cache space spots hour sound = entry_sound cache [] (Expire space spots hour) sound (expire_whole cache.index space spots hour sound.whole) tt
+
+pub swept_sound : SweptStaysSound
+swept_sound leases cache space hashes sound lawful = entry_sound cache [] (Swept space hashes) sound (swept_whole leases cache.index space hashes sound.whole lawful) tt

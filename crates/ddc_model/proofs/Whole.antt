@@ -2,8 +2,10 @@
 use Rattle.std.specs.Prelude.{◌≡◌, ℕ, Bool, true, false, List, [], ◌∷◌, Option, None, Some, IsTrue, ◌⊎◌, ◌↔◌, option_map, max, refl, ⊤}
 use Rattle.std.proofs.Common.{ap, sym, ◌∙◌, subst, inl, inr}
 use Rattle.std.specs.FinMap.{get, insert, remove}
+use Rattle.std.specs.List.{Contains}
 use Rattle.ddc_names.specs.declared.hash.IoHash.{IoHash}
 use Rattle.ddc_names.specs.declared.reference.RefName.{RefName}
+use Rattle.ddc_names.specs.declared.reference.RefSpot.{RefSpot}
 use Rattle.ddc_names.specs.Orders.{ref_name_exact, ref_name_total}
 use Rattle.cb_fields.specs.declared.links.Link.{Link}
 use Rattle.ref_store.specs.declared.slot.Slot.{Slot}
@@ -12,19 +14,21 @@ use Rattle.ddc_model.specs.declared.rows.Blob.{Blob}
 use Rattle.ddc_model.specs.declared.rows.BlobName.{BlobName}
 use Rattle.ddc_model.specs.declared.entry.Stored.{Stored}
 use Rattle.ddc_model.specs.declared.entry.Entry.{Entry}
-use Rattle.ddc_model.specs.declared.entry.Entry.TheVariants.{Space, Upload, Repin, Put, Finalise, Delete, Touch}
+use Rattle.ddc_model.specs.declared.entry.Entry.TheVariants.{Space, Upload, Repin, Put, Finalise, Delete, Touch, Expire, Swept, Cursor, BaseHour, BaseSlot, BaseEvent}
 use Rattle.ddc_model.specs.Keys.{blob_exact, blob_total}
 use Rattle.ddc_model.specs.State.{State, blob_name, blob_at, done_of}
-use Rattle.ddc_model.specs.Entries.{after, blob_of, pinned, slot_after, with_blob, with_pin, with_put_root, with_slot, with_touch}
+use Rattle.ddc_model.specs.Entries.{after, blob_of, name_at, noted_put, pinned, slot_after, with_blob, with_pin, with_put_root, with_slot, with_touch, without_blobs, without_slot, without_slots}
 use Rattle.ddc_model.specs.Content.{content_hash}
-use Rattle.ddc_model.specs.Closure.{Links, links_in, AreNeeds, IsWhole}
+use Rattle.ddc_model.specs.Closure.{Links, links_in, AreNeeds, IsReached, IsWhole}
 use Rattle.ddc_model.specs.Sound.{AreWhole}
 use Rattle.ddc_model.specs.Commands.{hour_of, stored_content, fresh_where, with_object, needs_none, put_entry}
-use Rattle.ddc_model.specs.History.{IsLawful}
-use Rattle.ddc_model.specs.Laws.{KeepsWhole, SpaceKeepsWhole, UploadKeepsWhole, PutKeepsWhole, FinaliseKeepsWhole, GetKeepsWhole, DeleteKeepsWhole}
+use Rattle.ddc_model.specs.History.{Leases, no_leases, IsKept, IsLawful}
+use Rattle.ddc_model.specs.Laws.{KeepsWhole, SpaceKeepsWhole, UploadKeepsWhole, PutKeepsWhole, FinaliseKeepsWhole, GetKeepsWhole, DeleteKeepsWhole, ExpireStaysWhole, SweptStaysWhole}
 use Rattle.ddc_model.proofs.Maps.{get_here, get_away, get_removed, get_left, same_or_not, same_some}
 use Rattle.ddc_model.proofs.Made.{made_by_space, made_by_upload, made_by_put, made_by_finalise, made_by_get, made_by_delete}
-use Rattle.ddc_model.proofs.Once.{itself, still_whole}
+use Rattle.ddc_model.proofs.Events.{added_any, deleted_any}
+use Rattle.ddc_model.proofs.Removals.{hash_away}
+use Rattle.ddc_model.proofs.Once.{itself, still_whole, whole_where_same}
 
 abbrev links_of : Option Blob → Option (List Link)
 links_of found = option_map (λ (blob : Blob). blob.links) found
@@ -111,13 +115,9 @@ IsNewIn s space (Some blob) = blob_at s space blob.hash ≡ None
 IsNewIn s space None = ⊤
 
 abbrev IsNew : State → Entry → Type 0
-IsNew s (Space space ttl pin) = ⊤
 IsNew s (Upload space blob hour) = IsNewIn s space (Some blob)
-IsNew s (Repin space hash hour) = ⊤
 IsNew s (Put name root fresh whole hour) = IsNewIn s name.space fresh
-IsNew s (Finalise name hash hour) = ⊤
-IsNew s (Delete name hour) = ⊤
-IsNew s (Touch name hour) = ⊤
+IsNew s entry = ⊤
 
 root_stays : (s : State) → AreWhole s → (space : List ℕ) (root : IoHash) (fresh : Option Stored) (hour : ℕ) → IsNewIn s space fresh → AreWhole (with_put_root s space root fresh hour)
 root_stays s whole space root None hour new = blob_pinned s space root hour whole
@@ -127,12 +127,14 @@ same_slots : (s : State) (space : List ℕ) (root : IoHash) (fresh : Option Stor
 same_slots s space root None hour = refl
 same_slots s space root (Some blob) hour = refl
 
-put_stays : (s : State) → AreWhole s → (name : RefName) (root : IoHash) (fresh : Option Stored) (now_whole : Bool) (hour : ℕ) → IsLawful s (Put name root fresh now_whole hour) → IsNewIn s name.space fresh
-    → AreWhole (with_slot (with_put_root s name.space root fresh hour) name (slot_after (get s.slots name) root now_whole hour))
-put_stays s whole name root fresh true hour lawful new =
-    slot_set (with_put_root s name.space root fresh hour) (root_stays s whole name.space root fresh hour new) name (slot_after (get s.slots name) root true hour)
-    (λ other done. subst (IsWhole (links_in (with_put_root s name.space root fresh hour) name.space)) (same_some root other done) (lawful.0 refl))
-put_stays s whole name root fresh false hour lawful new =
+put_stays : (leases : Leases) (s : State) → AreWhole s → (name : RefName) (root : IoHash) (fresh : Option Stored) (now_whole : Bool) (hour : ℕ) → IsLawful leases s (Put name root fresh now_whole hour) → IsNewIn s name.space fresh
+    → AreWhole (with_slot (noted_put (with_put_root s name.space root fresh hour) name root now_whole) name (slot_after (get s.slots name) root now_whole hour))
+put_stays leases s whole name root fresh true hour lawful new =
+    added_any (λ (t : State). AreWhole (with_slot t name (slot_after (get s.slots name) root true hour))) (with_put_root s name.space root fresh hour)
+    (λ logs. slot_set (with_put_root s name.space root fresh hour) (root_stays s whole name.space root fresh hour new) name (slot_after (get s.slots name) root true hour)
+    (λ other done. subst (IsWhole (links_in (with_put_root s name.space root fresh hour) name.space)) (same_some root other done) (lawful.0 refl)))
+    name (done_of (get (with_put_root s name.space root fresh hour).slots name)) root
+put_stays leases s whole name root fresh false hour lawful new =
     slot_set (with_put_root s name.space root fresh hour) (root_stays s whole name.space root fresh hour new) name (slot_after (get s.slots name) root false hour)
     (λ other done. done_whole (with_put_root s name.space root fresh hour) (root_stays s whole name.space root fresh hour new) name (get s.slots name)
     (ap (λ (slots : Slots). get slots name) (same_slots s name.space root fresh hour)) other done)
@@ -141,19 +143,55 @@ touch_stays : (s : State) → AreWhole s → (name : RefName) (hour : ℕ) (foun
 touch_stays s whole name hour None is = whole
 touch_stays s whole name hour (Some slot) is = slot_set s whole name (record slot { seen = hour }) (λ root done. whole name slot root is done)
 
--- a lawful entry that adds no blob that was there leaves the finalised references whole
-pub stays_whole : (s : State) (entry : Entry) → AreWhole s → IsLawful s entry → IsNew s entry → AreWhole (after s entry)
-stays_whole s (Space space ttl pin) whole lawful new = whole
-stays_whole s (Upload space blob hour) whole lawful new = blob_added s space blob new hour whole
-stays_whole s (Repin space hash hour) whole lawful new = blob_pinned s space hash hour whole
-stays_whole s (Put name root fresh now_whole hour) whole lawful new = put_stays s whole name root fresh now_whole hour lawful new
-stays_whole s (Finalise name hash hour) whole lawful new =
-    slot_set s whole name (record { done = Some hash; pending = None; seen = hour }) (λ other done. subst (IsWhole (links_in s name.space)) (same_some hash other done) lawful)
-stays_whole s (Delete name hour) whole lawful new = slot_removed s whole name
-stays_whole s (Touch name hour) whole lawful new = touch_stays s whole name hour (get s.slots name) refl
+-- references that go leave the others whole
+without_stays : (s : State) (space : List ℕ) (spots : List RefSpot) → AreWhole s → AreWhole (without_slots s space spots)
+without_stays s space [] whole = whole
+without_stays s space (spot ∷ spots) whole =
+    let name = name_at space spot in
+    without_stays (without_slot s name) space spots (deleted_any AreWhole (record s { slots = remove s.slots name }) (λ logs. slot_removed s whole name) name (done_of (get s.slots name)))
 
-keeps : (s : State) (entry : Entry) → AreWhole s → IsLawful s entry → IsNew s entry → KeepsWhole s (Some entry)
-keeps s entry whole lawful new = (lawful, stays_whole s entry whole lawful new)
+-- so do blobs that no reference reaches
+module _ (s : State) (space : List ℕ) (hashes : List IoHash) (free : (hash : IoHash) → Contains hashes hash → ¬ IsKept s space hash) where
+  reached_stays : (ref : RefName) (slot : Slot) (root : IoHash) → get s.slots ref ≡ Some slot → slot.done ≡ Some root → (node : Link) → IsReached (links_in s ref.space) root node
+      → links_in (without_blobs s space hashes) ref.space node.hash ≡ links_in s ref.space node.hash
+  reached_stays ref slot root there done node reached = ap links_of (hash_away space s.blobs hashes (blob_name ref.space node.hash) unnamed) where
+    kept : IsKept s ref.space node.hash
+    kept = record { spot = ref.spot; slot = slot; there = there; root = root; names = inl done; kind = node.kind; reached = reached }
+
+    unnamed : ref.space ≡ space → ¬ Contains hashes node.hash
+    unnamed here within = free node.hash within (subst (λ (at : List ℕ). IsKept s at node.hash) here kept)
+
+  swept_stays : AreWhole s → AreWhole (without_blobs s space hashes)
+  swept_stays whole ref slot root there done =
+      whole_where_same (links_in s ref.space) (links_in (without_blobs s space hashes) ref.space) root (reached_stays ref slot root there done) (whole ref slot root there done)
+
+pub expire_whole : ExpireStaysWhole
+expire_whole s space spots hour whole = without_stays s space spots whole
+
+pub swept_whole : SweptStaysWhole
+swept_whole leases s space hashes whole lawful = swept_stays s space hashes (λ hash within. (lawful hash within).0) whole
+
+-- a lawful entry that adds no blob that was there leaves the finalised references whole
+pub stays_whole : (leases : Leases) (s : State) (entry : Entry) → AreWhole s → IsLawful leases s entry → IsNew s entry → AreWhole (after s entry)
+stays_whole leases s (Space space ttl pin) whole lawful new = whole
+stays_whole leases s (Upload space blob hour) whole lawful new = blob_added s space blob new hour whole
+stays_whole leases s (Repin space hash hour) whole lawful new = blob_pinned s space hash hour whole
+stays_whole leases s (Put name root fresh now_whole hour) whole lawful new = put_stays leases s whole name root fresh now_whole hour lawful new
+stays_whole leases s (Finalise name hash hour) whole lawful new =
+    added_any (λ (t : State). AreWhole (with_slot t name (record { done = Some hash; pending = None; seen = hour }))) s
+    (λ logs. slot_set s whole name (record { done = Some hash; pending = None; seen = hour }) (λ other done. subst (IsWhole (links_in s name.space)) (same_some hash other done) lawful))
+    name (done_of (get s.slots name)) hash
+stays_whole leases s (Delete name hour) whole lawful new = deleted_any AreWhole (record s { slots = remove s.slots name }) (λ logs. slot_removed s whole name) name (done_of (get s.slots name))
+stays_whole leases s (Touch name hour) whole lawful new = touch_stays s whole name hour (get s.slots name) refl
+stays_whole leases s (Expire space spots hour) whole lawful new = without_stays s space spots whole
+stays_whole leases s (Swept space hashes) whole lawful new = swept_whole leases s space hashes whole lawful
+stays_whole leases s (Cursor space cursor) whole lawful new = whole
+stays_whole leases s (BaseHour hour) whole lawful new = absurd lawful
+stays_whole leases s (BaseSlot name finalised pending seen) whole lawful new = absurd lawful
+stays_whole leases s (BaseEvent name number op) whole lawful new = absurd lawful
+
+keeps : (s : State) (entry : Entry) → AreWhole s → ((leases : Leases) → IsLawful leases s entry) → IsNew s entry → KeepsWhole s (Some entry)
+keeps s entry whole lawful new = (lawful, stays_whole no_leases s entry whole (lawful no_leases) new)
 
 -- ---- the commands
 
@@ -168,18 +206,18 @@ whole_or_needs links root [] are = (λ e. needless, λ w. refl) where
 whole_or_needs links root (x ∷ xs) are = (λ e. absurd (cc), λ whole. absurd (whole x ((are.exactly x).0 (itself x xs))))
 
 pub space_whole : SpaceKeepsWhole
-space_whole s space ttl pin answer made whole gives = made_by_space (KeepsWhole s) tt s space ttl pin (tt, whole) answer made gives
+space_whole s space ttl pin answer made whole gives = made_by_space (KeepsWhole s) tt s space ttl pin (λ leases. tt, whole) answer made gives
 
 pub upload_whole : UploadKeepsWhole
 upload_whole s space content hour answer made whole gives =
     made_by_upload (KeepsWhole s) tt s space content hour
-    (λ known room none. keeps s (Upload space (stored_content s content) (hour_of s hour)) whole tt none)
-    (λ known blob is. keeps s (Repin space (content_hash content.bytes) (hour_of s hour)) whole tt tt) answer made gives
+    (λ known room none. keeps s (Upload space (stored_content s content) (hour_of s hour)) whole (λ leases. tt) none)
+    (λ known blob is. keeps s (Repin space (content_hash content.bytes) (hour_of s hour)) whole (λ leases. tt) tt) answer made gives
 
 pub put_whole : PutKeepsWhole
 put_whole s name content hour answer made whole gives =
     made_by_put (KeepsWhole s) tt s name content hour
-    (λ known room needs are. keeps s (put_entry s name content needs hour) whole (whole_or_needs (links_in (with_object s name content hour) name.space) (content_hash content.bytes) needs are)
+    (λ known room needs are. keeps s (put_entry s name content needs hour) whole (λ leases. whole_or_needs (links_in (with_object s name content hour) name.space) (content_hash content.bytes) needs are)
     (is_new (blob_at s name.space (content_hash content.bytes)) refl)) answer made gives where
       is_new : (found : Option Blob) → blob_at s name.space (content_hash content.bytes) ≡ found → IsNewIn s name.space (fresh_where s found content)
       is_new None is = is
@@ -188,12 +226,12 @@ put_whole s name content hour answer made whole gives =
 pub finalise_whole : FinaliseKeepsWhole
 finalise_whole s name hash hour answer made whole gives =
     made_by_finalise (KeepsWhole s) tt s name hash hour
-    (λ known are. keeps s (Finalise name hash (hour_of s hour)) whole ((whole_or_needs (links_in s name.space) hash [] are).0 refl) tt) answer made gives
+    (λ known are. keeps s (Finalise name hash (hour_of s hour)) whole (λ leases. (whole_or_needs (links_in s name.space) hash [] are).0 refl) tt) answer made gives
 
 pub get_whole : GetKeepsWhole
 get_whole cache name hour answer made whole gives =
-    made_by_get (KeepsWhole cache.index) tt cache name hour (keeps cache.index (Touch name (hour_of cache.index hour)) whole tt tt) answer made gives
+    made_by_get (KeepsWhole cache.index) tt cache name hour (λ hash known. keeps cache.index (Touch name (hour_of cache.index hour)) whole (λ leases. tt) tt) answer made gives
 
 pub delete_whole : DeleteKeepsWhole
 delete_whole s name hour answer made whole gives =
-    made_by_delete (KeepsWhole s) tt s name hour (λ known there. keeps s (Delete name (hour_of s hour)) whole tt tt) answer made gives
+    made_by_delete (KeepsWhole s) tt s name hour (λ known there. keeps s (Delete name (hour_of s hour)) whole (λ leases. tt) tt) answer made gives

@@ -8,13 +8,13 @@ use Rattle.ref_store.specs.declared.slot.Slot.{Slot}
 use Rattle.ddc_model.specs.declared.rows.Blob.{Blob}
 use Rattle.ddc_model.specs.declared.entry.Stored.{Stored}
 use Rattle.ddc_model.specs.declared.entry.Entry.{Entry}
-use Rattle.ddc_model.specs.declared.entry.Entry.TheVariants.{Space, Upload, Repin, Put, Finalise, Touch}
+use Rattle.ddc_model.specs.declared.entry.Entry.TheVariants.{Space, Upload, Repin, Put, Finalise, Touch, Swept}
 use Rattle.ddc_model.specs.declared.fault.StoreFault.{StoreFault}
 use Rattle.ddc_model.specs.declared.fault.StoreFault.TheVariants.{UnknownSpace, NotFound, NotFinalised, NotPending}
 use Rattle.ddc_model.specs.Keys.{blob_cmp}
 use Rattle.ddc_model.specs.State.{State, blob_name, blob_at, has_space}
 use Rattle.ddc_model.specs.Extents.{units_of, free_run}
-use Rattle.ddc_model.specs.Entries.{after, is_hash, with_put_root}
+use Rattle.ddc_model.specs.Entries.{after, is_hash, with_put_root, without_hashes}
 use Rattle.ddc_model.specs.Content.{Content, content_hash}
 use Rattle.ddc_model.specs.Closure.{links_in, AreNeeds}
 use Rattle.ddc_model.specs.Counts.{full}
@@ -168,9 +168,11 @@ abbrev pub kept_where : FinMap blob_cmp (List ℕ) → List ℕ → Option Store
 kept_where all space (Some blob) bytes = insert all (blob_name space blob.hash) bytes
 kept_where all space None bytes = all
 
+-- the bytes of blobs that are removed go with them
 abbrev pub kept : FinMap blob_cmp (List ℕ) → Entry → List ℕ → FinMap blob_cmp (List ℕ)
 kept all (Upload space blob hour) bytes = kept_where all space (Some blob) bytes
 kept all (Put name root fresh whole hour) bytes = kept_where all name.space fresh bytes
+kept all (Swept space hashes) bytes = without_hashes all space hashes
 kept all entry bytes = all
 
 -- the state and the bytes after the entry of a command with these bytes, where it makes one

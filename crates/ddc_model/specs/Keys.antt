@@ -1,19 +1,21 @@
 -- The order of blobs, and the codes of what is kept.
-use Rattle.std.specs.Prelude.{◌≡◌, ℕ, Bool, true, false, List, refl}
+use Rattle.std.specs.Prelude.{◌≡◌, ℕ, Bool, true, false, List, Option, refl}
 use Rattle.std.proofs.Common.{ap}
 use Rattle.std.specs.declared.cmp.Ordering.{Ordering}
 use Rattle.std.specs.Ordering.{ordering_then}
 use Rattle.std.specs.Cmp.{IsTotalOrder}
-use Rattle.std.specs.Coded.{Coded, code_by, coded×, coded_ℕ, coded_bool, coded_list}
+use Rattle.std.specs.Coded.{Coded, code_by, coded×, coded_ℕ, coded_bool, coded_list, coded_option}
 use Rattle.std.proofs.lemmas.Map.Lookups.{CmpEqualImpliesEq, exact_pairs}
 use Rattle.std.proofs.lemmas.Cmp.{on_total, then_total}
 use Rattle.ddc_names.specs.declared.hash.IoHash.{IoHash}
-use Rattle.ddc_names.specs.Orders.{name_cmp, name_exact, name_total, coded_name, io_hash_cmp, io_hash_exact, io_hash_total, coded_io_hash}
+use Rattle.ddc_names.specs.declared.reference.RefSpot.{RefSpot}
+use Rattle.ddc_names.specs.Orders.{name_cmp, name_exact, name_total, coded_name, io_hash_cmp, io_hash_exact, io_hash_total, coded_io_hash, coded_spot}
 use Rattle.cb_fields.specs.declared.links.Link.{Link}
 use Rattle.cb_fields.specs.declared.links.LinkKind.{LinkKind}
 use Rattle.cb_fields.specs.declared.links.LinkKind.TheVariants.{Object, Binary}
 use Rattle.ddc_model.specs.declared.rows.Blob.{Blob}
 use Rattle.ddc_model.specs.declared.rows.BlobName.{BlobName}
+use Rattle.ddc_model.specs.declared.rows.Cursor.{Cursor}
 use Rattle.ddc_model.specs.declared.rows.SpaceRow.{SpaceRow}
 
 -- by namespace, and then by hash
@@ -52,3 +54,7 @@ abbrev pub coded_blob : Coded Blob
 coded_blob = code_by ((ℕ × ℕ) × ((ℕ × ℕ) × List Link)) (coded× (coded× coded_ℕ coded_ℕ) (coded× (coded× coded_ℕ coded_ℕ) (coded_list coded_link)))
     (λ blob. ((blob.row.len, blob.row.at), ((blob.row.extent.start, blob.row.extent.units), blob.links)))
     (λ p. record { row = record { len = p.0.0; at = p.0.1; extent = record { start = p.1.0.0; units = p.1.0.1 } }; links = p.1.1 }) (λ _. refl)
+
+abbrev pub coded_cursor : Coded Cursor
+coded_cursor = code_by (Bool × (ℕ × (ℕ × Option RefSpot))) (coded× coded_bool (coded× coded_ℕ (coded× coded_ℕ (coded_option coded_spot)))) (λ c. (c.walking, (c.after, (c.top, c.from))))
+    (λ p. record { walking = p.0; after = p.1.0; top = p.1.1.0; from = p.1.1.1 }) (λ _. refl)

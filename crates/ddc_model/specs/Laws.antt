@@ -1,22 +1,28 @@
 -- What holds of the definitions.
-use Rattle.std.specs.Prelude.{◌≡◌, ℕ, ◌*◌, ◌≤◌, true, List, [], length, Option, None, Some, IsSome, Result, Ok, ⊤}
-use Rattle.std.specs.FinMap.{get}
+use Rattle.std.specs.Prelude.{◌≡◌, ℕ, ◌-◌, ◌*◌, ◌^◌, ◌≤◌, true, List, [], length, Option, None, Some, IsSome, Result, Ok, ⊤}
+use Rattle.std.specs.FinMap.{FinMap, get}
+use Rattle.std.specs.List.{Contains}
 use Rattle.ddc_names.specs.declared.hash.IoHash.{IoHash}
 use Rattle.ddc_names.specs.declared.reference.RefName.{RefName}
+use Rattle.ddc_names.specs.declared.reference.RefSpot.{RefSpot}
 use Rattle.cb_fields.specs.declared.links.LinkKind.{LinkKind}
+use Rattle.replication_log.specs.Logs.{Log, IsLog}
+use Rattle.ddc_model.specs.declared.rows.BlobName.{BlobName}
 use Rattle.ddc_model.specs.declared.rows.Limits.{Limits}
 use Rattle.ddc_model.specs.declared.entry.Entry.{Entry}
+use Rattle.ddc_model.specs.declared.entry.Entry.TheVariants.{Upload, Repin, Put, Expire, Swept, BaseEvent}
 use Rattle.ddc_model.specs.declared.fault.StoreFault.{StoreFault}
 use Rattle.ddc_model.specs.Limits.{most_bytes}
-use Rattle.ddc_model.specs.State.{State, done_of, empty_state}
+use Rattle.ddc_model.specs.Keys.{blob_cmp}
+use Rattle.ddc_model.specs.State.{State, blob_name, done_of, empty_state, log_of}
 use Rattle.ddc_model.specs.Extents.{IsPlaced}
-use Rattle.ddc_model.specs.Entries.{after, legal, is_time}
+use Rattle.ddc_model.specs.Entries.{after, legal, is_time, name_at}
 use Rattle.ddc_model.specs.Content.{Content, IsContent, content_hash}
 use Rattle.ddc_model.specs.Closure.{Links, links_in, AreNeeds, IsReached, IsWhole}
 use Rattle.ddc_model.specs.Sound.{Cache, empty_cache, AreWhole, IsSound}
-use Rattle.ddc_model.specs.Commands.{SpaceAs, UploadAs, PutAs, FinaliseAs, GetAs, changed}
+use Rattle.ddc_model.specs.Commands.{SpaceAs, UploadAs, PutAs, FinaliseAs, GetAs, changed, kept}
 use Rattle.ddc_model.specs.Reads.{DeleteAs, ServesAs}
-use Rattle.ddc_model.specs.History.{IsLawful}
+use Rattle.ddc_model.specs.History.{Leases, Past, IsLawful, no_room_for}
 
 -- bytes have one list of links, and are an object or none
 abbrev pub OneContent : Type 0
@@ -90,7 +96,7 @@ LegalStaysPlaced = (s : State) (entry : Entry) → IsPlaced s → legal s entry 
 
 -- the entry that is made, where there is one, is lawful, and leaves the finalised references whole
 abbrev pub KeepsWhole : State → Option Entry → Type 0
-KeepsWhole s (Some entry) = IsLawful s entry × AreWhole (after s entry)
+KeepsWhole s (Some entry) = ((leases : Leases) → IsLawful leases s entry) × AreWhole (after s entry)
 KeepsWhole s None = ⊤
 
 abbrev pub SpaceKeepsWhole : Type 0
@@ -117,6 +123,83 @@ abbrev pub DeleteKeepsWhole : Type 0
 DeleteKeepsWhole = (s : State) (name : RefName) (hour : ℕ) (answer : Result (Unit {0}) StoreFault) (made : Option Entry)
     → AreWhole s → DeleteAs s name hour answer made → KeepsWhole s made
 
+-- ---- entries that remove
+
+-- references that go leave the others whole
+abbrev pub ExpireStaysWhole : Type 0
+ExpireStaysWhole = (s : State) (space : List ℕ) (spots : List RefSpot) (hour : ℕ) → AreWhole s → AreWhole (after s (Expire space spots hour))
+
+-- so do blobs that no reference reaches
+abbrev pub SweptStaysWhole : Type 0
+SweptStaysWhole = (leases : Leases) (s : State) (space : List ℕ) (hashes : List IoHash)
+    → AreWhole s → IsLawful leases s (Swept space hashes) → AreWhole (after s (Swept space hashes))
+
+-- both keep a cache sound
+abbrev pub ExpireStaysSound : Type 0
+ExpireStaysSound = (cache : Cache) (space : List ℕ) (spots : List RefSpot) (hour : ℕ) → IsSound cache → IsSound (changed cache [] (Some (Expire space spots hour)))
+
+abbrev pub SweptStaysSound : Type 0
+SweptStaysSound = (leases : Leases) (cache : Cache) (space : List ℕ) (hashes : List IoHash)
+    → IsSound cache → IsLawful leases cache.index (Swept space hashes) → IsSound (changed cache [] (Some (Swept space hashes)))
+
+-- the references that are named go
+abbrev pub ExpireRemoves : Type 0
+ExpireRemoves = (s : State) (space : List ℕ) (spots : List RefSpot) (hour : ℕ) (spot : RefSpot)
+    → Contains spots spot → get (after s (Expire space spots hour)).slots (name_at space spot) ≡ None
+
+-- and the others stay as they were
+abbrev pub ExpireKeepsOthers : Type 0
+ExpireKeepsOthers = (s : State) (space : List ℕ) (spots : List RefSpot) (hour : ℕ) (name : RefName)
+    → (name.space ≡ space → ¬ Contains spots name.spot) → get (after s (Expire space spots hour)).slots name ≡ get s.slots name
+
+-- the blobs that are named go, with their bytes
+abbrev pub SweptRemoves : Type 0
+SweptRemoves = (s : State) (all : FinMap blob_cmp (List ℕ)) (space : List ℕ) (hashes : List IoHash) (hash : IoHash) → Contains hashes hash
+    → (get (after s (Swept space hashes)).blobs (blob_name space hash) ≡ None) × (get (kept all (Swept space hashes) []) (blob_name space hash) ≡ None)
+
+-- and the others stay, with their rows and their links, and with their bytes
+abbrev pub SweptKeepsOthers : Type 0
+SweptKeepsOthers = (s : State) (all : FinMap blob_cmp (List ℕ)) (space : List ℕ) (hashes : List IoHash) (name : BlobName)
+    → (name.space ≡ space → ¬ Contains hashes name.hash)
+    → (get (after s (Swept space hashes)).blobs name ≡ get s.blobs name) × (get (kept all (Swept space hashes) []) name ≡ get all name)
+
+-- an entry that adds, pins and removes no blob
+abbrev pub LeavesBlobs : Entry → Type 0
+LeavesBlobs (Upload space blob hour) = ⊥
+LeavesBlobs (Repin space hash hour) = ⊥
+LeavesBlobs (Put name root fresh whole hour) = ⊥
+LeavesBlobs (Swept space hashes) = ⊥
+LeavesBlobs entry = ⊤
+
+-- it leaves all blobs as they were, with their bytes
+abbrev pub LeavesBlobsAlone : Type 0
+LeavesBlobsAlone = (s : State) (all : FinMap blob_cmp (List ℕ)) (entry : Entry) (bytes : List ℕ) → LeavesBlobs entry → ((after s entry).blobs ≡ s.blobs) × (kept all entry bytes ≡ all)
+
+-- ---- the logs of events
+
+-- a log that keeps so many events: they are numbered one after another, and its last number is below 2^64
+pub record IsLogOf (kept : ℕ) (log : Log) : Type 0 where
+  pub keeps : log.kept ≡ kept
+  pub is_log : IsLog log
+  pub fits : log.last ≤ 2 ^ 64 - 1
+
+-- that of each namespace is so
+abbrev pub AreLogs : State → Type 0
+AreLogs s = (space : List ℕ) → IsLogOf s.limits.kept (log_of s space)
+
+-- those of an empty state are
+abbrev pub EmptyHasLogs : Type 0
+EmptyHasLogs = (limits : Limits) → 1 ≤ limits.kept → AreLogs (empty_state limits)
+
+-- the number that an entry gives an event is below 2^64, as that of every entry is which the code can hold
+abbrev pub IsCounted : Entry → Type 0
+IsCounted (BaseEvent name number op) = number ≤ 2 ^ 64 - 1
+IsCounted entry = ⊤
+
+-- a legal entry keeps them so
+abbrev pub LegalKeepsLogs : Type 0
+LegalKeepsLogs = (s : State) (entry : Entry) → IsCounted entry → AreLogs s → legal s entry ≡ true → AreLogs (after s entry)
+
 -- ---- the entries that commands make are legal
 
 -- the entry that is made, where there is one, is legal
@@ -134,15 +217,15 @@ abbrev pub UploadIsLegal : Type 0
 UploadIsLegal = (s : State) (space : List ℕ) (content : Content) (hour : ℕ) (answer : Result (Unit {0}) StoreFault) (made : Option Entry)
     → IsContent content → length content.bytes ≤ most_bytes → UploadAs s space content hour answer made → IsLegal s made
 
--- and that of an object put under a reference
+-- and that of an object put under a reference, where the history has room
 abbrev pub PutIsLegal : Type 0
-PutIsLegal = (s : State) (name : RefName) (content : Content) (hour : ℕ) (answer : Result (List IoHash) StoreFault) (made : Option Entry)
-    → IsContent content → length content.bytes ≤ most_bytes → PutAs s name content hour answer made → IsLegal s made
+PutIsLegal = (s : State) (past : Past) (name : RefName) (content : Content) (hour : ℕ) (answer : Result (List IoHash) StoreFault) (made : Option Entry)
+    → IsContent content → length content.bytes ≤ most_bytes → PutAs s name content hour answer made → no_room_for s past made ≡ None → IsLegal s made
 
 -- and that of a reference that is finalised
 abbrev pub FinaliseIsLegal : Type 0
-FinaliseIsLegal = (s : State) (name : RefName) (hash : IoHash) (hour : ℕ) (answer : Result (List IoHash) StoreFault) (made : Option Entry)
-    → FinaliseAs s name hash hour answer made → IsLegal s made
+FinaliseIsLegal = (s : State) (past : Past) (name : RefName) (hash : IoHash) (hour : ℕ) (answer : Result (List IoHash) StoreFault) (made : Option Entry)
+    → FinaliseAs s name hash hour answer made → no_room_for s past made ≡ None → IsLegal s made
 
 -- and that of a reference that is read
 abbrev pub GetIsLegal : Type 0
@@ -151,5 +234,5 @@ GetIsLegal = (cache : Cache) (name : RefName) (hour : ℕ) (answer : Result (IoH
 
 -- and that of a reference that is taken away
 abbrev pub DeleteIsLegal : Type 0
-DeleteIsLegal = (s : State) (name : RefName) (hour : ℕ) (answer : Result (Unit {0}) StoreFault) (made : Option Entry)
-    → DeleteAs s name hour answer made → IsLegal s made
+DeleteIsLegal = (s : State) (past : Past) (name : RefName) (hour : ℕ) (answer : Result (Unit {0}) StoreFault) (made : Option Entry)
+    → DeleteAs s name hour answer made → no_room_for s past made ≡ None → IsLegal s made

@@ -1,8 +1,9 @@
 //! The entries of a store's history.
 
-use crate::{Limits, NameBox};
+use crate::{CursorBox, Limits, NameBox};
 use cb_fields::Link;
-use ddc_names::{IoHash, Namespace, Rows};
+use ddc_names::{IoHash, Namespace, RefSpot, Rows};
+use replication_log::EventOp;
 
 /// A blob as an entry adds it.
 #[derive(Debug, Drop)]
@@ -62,6 +63,39 @@ pub enum Entry {
         name: NameBox,
         hour: u32,
     },
+    /// References of a namespace, in order, were not read for too long and are taken away.
+    Expire {
+        space: Namespace,
+        spots: Rows<RefSpot>,
+        hour: u32,
+    },
+    /// Blobs of a namespace, in order, are removed.
+    Swept {
+        space: Namespace,
+        hashes: Rows<IoHash>,
+    },
+    /// How far a follower has come is noted.
+    Cursor {
+        space: Namespace,
+        cursor: CursorBox,
+    },
+    /// The hour of a state that is written down anew.
+    BaseHour {
+        hour: u32,
+    },
+    /// A reference of such a state.
+    BaseSlot {
+        name: NameBox,
+        done: Option<IoHash>,
+        pending: Option<IoHash>,
+        seen: u32,
+    },
+    /// An event of a namespace's log in such a state.
+    BaseEvent {
+        name: NameBox,
+        number: u64,
+        op: EventOp,
+    },
 }
 
 /// One item of the history of a store that was opened.
@@ -75,6 +109,16 @@ pub enum Step {
     },
     /// A change.
     Change(Entry),
+    /// A blob is lent, so that it can be read in pieces. No other lease since the opening has the number.
+    Lease {
+        number: u64,
+        space: Namespace,
+        hash: IoHash,
+    },
+    /// A blob that was lent is given back.
+    Unlease {
+        number: u64,
+    },
     /// A call failed at the disks, and their count of faults rose. `changed` tells that the change
     /// before it is that call's, and may not be on the disks.
     Broke {

@@ -2,6 +2,7 @@
 ghost use Rattle.ddc_model.specs.Laws.{OneContent, LinksFit, OneListOfNeeds, WholeStaysWhole};
 ghost use Rattle.ddc_model.specs.Laws.{EmptyIsSound, SpaceStaysSound, UploadStaysSound, PutStaysSound, FinaliseStaysSound, GetStaysSound, DeleteStaysSound};
 ghost use Rattle.ddc_model.specs.Laws.{SpaceIsLegal, UploadIsLegal, PutIsLegal, FinaliseIsLegal, GetIsLegal, DeleteIsLegal};
+ghost use Rattle.ddc_model.specs.Laws.{ExpireStaysWhole, SweptStaysWhole, ExpireStaysSound, SweptStaysSound, ExpireRemoves, ExpireKeepsOthers, SweptRemoves, SweptKeepsOthers, LeavesBlobsAlone, EmptyHasLogs, LegalKeepsLogs};
 ghost use Rattle.ddc_model.specs.Laws.{SoundServes, EmptyIsPlaced, LegalStaysPlaced, SpaceKeepsWhole, UploadKeepsWhole, PutKeepsWhole, FinaliseKeepsWhole, GetKeepsWhole, DeleteKeepsWhole};
 
 /// Bytes have one list of links, and are an object or none.
@@ -64,4 +65,24 @@ pub fn entries_are_legal()
     ensures finalise { FinaliseIsLegal }
     ensures get { GetIsLegal }
     ensures delete { DeleteIsLegal }
+{}
+
+/// The logs of an empty state are numbered, and a legal entry keeps them so.
+pub fn entries_keep_logs()
+    ensures empty { EmptyHasLogs }
+    ensures legal { LegalKeepsLogs }
+{}
+
+/// What expires and what is swept leaves finalised references whole and a cache sound. Just the references and the blobs
+/// that are named go, and only uploads, pins, puts and sweeps change blobs.
+pub fn removals_keep_the_rest()
+    ensures expire { ExpireStaysWhole }
+    ensures swept { SweptStaysWhole }
+    ensures expire_sound { ExpireStaysSound }
+    ensures swept_sound { SweptStaysSound }
+    ensures expire_removes { ExpireRemoves }
+    ensures expire_others { ExpireKeepsOthers }
+    ensures swept_removes { SweptRemoves }
+    ensures swept_others { SweptKeepsOthers }
+    ensures blobs { LeavesBlobsAlone }
 {}

@@ -5,17 +5,20 @@
 //! definitions speak of, and nothing here runs but the constants and the names on the heap.
 #![tactic(auto)]
 
+mod cursor_box;
 mod entry;
 mod fault;
 mod laws;
 mod name_box;
 mod rows;
 
+pub use cursor_box::CursorBox;
 pub use entry::{Entry, Step, Stored};
 pub use fault::{StoreFault, What};
 pub use laws::{
-    commands_keep_whole, commands_stay_sound, entries_are_legal, entries_stay_placed, links_fit,
-    one_content, one_list_of_needs, sound_caches_serve, whole_stays_whole,
+    commands_keep_whole, commands_stay_sound, entries_are_legal, entries_keep_logs,
+    entries_stay_placed, links_fit, one_content, one_list_of_needs, removals_keep_the_rest,
+    sound_caches_serve, whole_stays_whole,
 };
 pub use name_box::NameBox;
-pub use rows::{Blob, BlobName, BlobRow, Extent, Limits, MOST_BLOB_BYTES, SpaceRow};
+pub use rows::{Blob, BlobName, BlobRow, Cursor, Extent, Limits, MOST_BLOB_BYTES, SpaceRow};

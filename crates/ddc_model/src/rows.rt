@@ -4,7 +4,7 @@ ghost use Rattle.std.specs.Prelude.{◌≡◌};
 ghost use Rattle.ddc_model.specs.Limits.{standard};
 
 use cb_fields::Link;
-use ddc_names::{IoHash, Namespace, Rows};
+use ddc_names::{IoHash, Namespace, RefSpot, Rows};
 
 /// The most bytes of a blob.
 pub const MOST_BLOB_BYTES: u64 = 67_108_864;
@@ -52,6 +52,19 @@ pub struct Blob {
     pub row: BlobRow,
     /// What it links to, in order of occurrence. Bytes that are no object link to nothing.
     pub links: Rows<Link>,
+}
+
+/// How far a follower has come in what its leader says of a namespace.
+#[derive(Clone, Copy, Debug, PartialEq, Eq)]
+pub struct Cursor {
+    /// Whether it still goes through the pages of all references.
+    pub walking: bool,
+    /// The number of the last event that it has taken in.
+    pub after: u64,
+    /// The greatest number of a page that it has taken in.
+    pub top: u64,
+    /// The reference after which its next page begins.
+    pub from: Option<RefSpot>,
 }
 
 /// How much a store may hold, and how much one opening of it may do.

@@ -1,28 +1,30 @@
 -- What the blob file gives as the bytes of blobs.
 use Rattle.std.specs.Prelude.{◌≡◌, ℕ, ◌^◌, ◌≤◌, max, Bool, true, false, List, [], ◌∷◌, map, length, Option, None, Some, IfSome, IsSome, option_map, cond, refl}
 use Rattle.std.proofs.Common.{ap, sym, ◌∙◌, subst, arith}
-use Rattle.std.specs.FinMap.{FinMap, get, empty, insert, entries, find, get-empty, get-entries, get-from_entries, get-insert, same_map}
+use Rattle.std.specs.FinMap.{FinMap, get, empty, insert, remove, entries, find, get-empty, get-entries, get-from_entries, get-insert, get-remove, same_map}
 use Rattle.std.specs.Option.{unwrap_or}
 use Rattle.std.specs.Ordering.{eq_by_cmp, is_eq}
 use Rattle.std.specs.declared.cmp.Ordering.{Ordering}
 use Rattle.std.specs.declared.cmp.Ordering.TheVariants.{Less, Equal, Greater}
 use Rattle.std.proofs.lemmas.List.FromFn.{length-map-range_with_len}
-use Rattle.ddc_names.specs.declared.reference.RefName.{RefName}
+use Rattle.ddc_names.specs.declared.hash.IoHash.{IoHash}
 use Rattle.ddc_disk.specs.Images.{Images}
-use Rattle.ref_store.specs.declared.slot.Slot.{Slot}
 use Rattle.ddc_model.specs.declared.rows.Blob.{Blob}
 use Rattle.ddc_model.specs.declared.rows.BlobName.{BlobName}
 use Rattle.ddc_model.specs.declared.rows.Extent.{Extent}
 use Rattle.ddc_model.specs.declared.rows.Limits.{Limits}
 use Rattle.ddc_model.specs.declared.entry.Stored.{Stored}
 use Rattle.ddc_model.specs.declared.entry.Entry.{Entry}
-use Rattle.ddc_model.specs.declared.entry.Entry.TheVariants.{Space, Upload, Repin, Put, Finalise, Delete, Touch}
+use Rattle.ddc_model.specs.declared.entry.Entry.TheVariants.{Space, Upload, Repin, Put, Finalise, Delete, Touch, Expire, Swept, Cursor, BaseHour, BaseSlot, BaseEvent}
 use Rattle.ddc_model.specs.Keys.{blob_cmp, blob_exact, blob_total}
 use Rattle.ddc_model.specs.State.{State, blob_name}
-use Rattle.ddc_model.specs.Entries.{after, blob_of, extent_of, pinned, with_touch}
+use Rattle.ddc_model.specs.Entries.{after, blob_of, extent_of, pinned, with_put_root, without_hashes}
 use Rattle.ddc_model.specs.Extents.{Apart, IsPlaced}
 use Rattle.ddc_model.specs.Counts.{fresh_of}
 use Rattle.ddc_model.specs.Commands.{kept, kept_where}
+use Rattle.ddc_model.specs.Laws.{LeavesBlobs}
+use Rattle.ddc_model.proofs.Events.{put_any}
+use Rattle.ddc_model.proofs.Removals.{blobs_alone}
 use Rattle.ddc_model.specs.Sound.{Cache, IsBlobOf}
 use Rattle.blob_store.specs.Bytes.{first_byte, LieIn, bytes_from, HasBlobBytes, ChangesOnly}
 use Rattle.blob_store.specs.BytesLaws.{kept_outside, other_extent}
@@ -106,9 +108,21 @@ bytes_pinned file blobs name hour (Some blob) there = only_bytes file (insert bl
     split q Equal e = ap (option_map (bytes_at file)) (sym (ap (get blobs) (blob_exact q name e) ∙ there))
     split q Greater e = refl
 
-touched : (s : State) (name : RefName) (hour : ℕ) (found : Option Slot) → (with_touch s name hour found).blobs ≡ s.blobs
-touched s name hour None = refl
-touched s name hour (Some slot) = refl
+-- a blob that is removed takes its bytes with it
+bytes_remove : (file : List ℕ) (blobs : FinMap blob_cmp Blob) (name : BlobName) → bytes_in file (remove blobs name) ≡ remove (bytes_in file blobs) name
+bytes_remove file blobs name = only_bytes file (remove blobs name) (remove (bytes_in file blobs) name) (λ q.
+    ap (option_map (bytes_at file)) (get-remove blob_total blobs name q) ∙ split (eq_by_cmp blob_cmp q name) q
+    ∙ ap (cond (eq_by_cmp blob_cmp q name) None) (sym (get_bytes file blobs q)) ∙ sym (get-remove blob_total (bytes_in file blobs) name q))
+  where
+    split : (here : Bool) (q : BlobName) → option_map (bytes_at file) (cond here None (get blobs q)) ≡ cond here None (option_map (bytes_at file) (get blobs q))
+    split true q = refl
+    split false q = refl
+
+bytes_swept : (file : List ℕ) (blobs : FinMap blob_cmp Blob) (space : List ℕ) (hashes : List IoHash) → bytes_in file (without_hashes blobs space hashes) ≡ without_hashes (bytes_in file blobs) space hashes
+bytes_swept file blobs space [] = refl
+bytes_swept file blobs space (hash ∷ hashes) =
+    bytes_swept file (remove blobs (blob_name space hash)) space hashes
+    ∙ ap (λ (all : FinMap blob_cmp (List ℕ)). without_hashes all space hashes) (bytes_remove file blobs (blob_name space hash))
 
 -- a file that has the bytes of the blob that an entry adds, and those of each blob before it, gives what the entry leaves
 module _ (file new : List ℕ) (s : State) (bytes : List ℕ) (before : (name : BlobName) (blob : Blob) → get s.blobs name ≡ Some blob → bytes_at new blob ≡ bytes_at file blob) where
@@ -121,15 +135,27 @@ module _ (file new : List ℕ) (s : State) (bytes : List ℕ) (before : (name : 
   pinned_there : (name : BlobName) (hour : ℕ) → bytes_in new (pinned s.blobs name hour (get s.blobs name)) ≡ bytes_in file s.blobs
   pinned_there name hour = bytes_pinned new s.blobs name hour (get s.blobs name) refl ∙ unchanged
 
+  -- of an entry that touches no blob
+  alone : (entry : Entry) → LeavesBlobs entry → bytes_in new (after s entry).blobs ≡ kept (bytes_in file s.blobs) entry bytes
+  alone entry leaves = let same = blobs_alone s (bytes_in file s.blobs) entry bytes leaves in ap (bytes_in new) same.0 ∙ unchanged ∙ sym same.1
+
   pub bytes_added : (entry : Entry) → IfSome (fresh_of entry) (λ blob. bytes_from new (first_byte (extent_of blob)) blob.len ≡ bytes) → bytes_in new (after s entry).blobs ≡ kept (bytes_in file s.blobs) entry bytes
-  bytes_added (Space space ttl pin) is = unchanged
   bytes_added (Upload space blob hour) is = added space blob hour is
   bytes_added (Repin space hash hour) is = pinned_there (blob_name space hash) hour
-  bytes_added (Put name root None whole hour) is = pinned_there (blob_name name.space root) hour
-  bytes_added (Put name root (Some blob) whole hour) is = added name.space blob hour is
-  bytes_added (Finalise name hash hour) is = unchanged
-  bytes_added (Delete name hour) is = unchanged
-  bytes_added (Touch name hour) is = ap (bytes_in new) (touched s name hour (get s.slots name)) ∙ unchanged
+  bytes_added (Put name root None whole hour) is =
+      put_any (λ (t : State). bytes_in new t.blobs ≡ bytes_in file s.blobs) (with_put_root s name.space root None hour) (λ logs. pinned_there (blob_name name.space root) hour) name root whole
+  bytes_added (Put name root (Some blob) whole hour) is =
+      put_any (λ (t : State). bytes_in new t.blobs ≡ kept_where (bytes_in file s.blobs) name.space (Some blob) bytes) (with_put_root s name.space root (Some blob) hour) (λ logs. added name.space blob hour is) name root whole
+  bytes_added (Swept space hashes) is = bytes_swept new s.blobs space hashes ∙ ap (λ (all : FinMap blob_cmp (List ℕ)). without_hashes all space hashes) unchanged
+  bytes_added (Space space ttl pin) is = alone (Space space ttl pin) tt
+  bytes_added (Finalise name hash hour) is = alone (Finalise name hash hour) tt
+  bytes_added (Delete name hour) is = alone (Delete name hour) tt
+  bytes_added (Touch name hour) is = alone (Touch name hour) tt
+  bytes_added (Expire space spots hour) is = alone (Expire space spots hour) tt
+  bytes_added (Cursor space cursor) is = alone (Cursor space cursor) tt
+  bytes_added (BaseHour hour) is = alone (BaseHour hour) tt
+  bytes_added (BaseSlot name done pending seen) is = alone (BaseSlot name done pending seen) tt
+  bytes_added (BaseEvent name number op) is = alone (BaseEvent name number op) tt
 
 -- ---- what is sound
 

@@ -59,6 +59,16 @@ module _ {K X : Type 0} (R : K → K → Ordering) (total : IsTotalOrder R) wher
   pub put_same : CmpEqualImpliesEq R → (m : FinMap R X) (k : K) (v : X) → get m k ≡ Some v → insert m k v ≡ m
   put_same exact m k v some = same_map total exact _ _ (λ q. get-insert total m k v q ∙ kept m k v some q (eq_by_cmp R q k) refl)
 
+  over : (b : Bool) (v w : X) (o : Option X) → cond b (Some w) (cond b (Some v) o) ≡ cond b (Some w) o
+  over true v w o = refl
+  over false v w o = refl
+
+  -- what is put in twice has the second value
+  pub put_twice : CmpEqualImpliesEq R → (m : FinMap R X) (k : K) (v w : X) → insert (insert m k v) k w ≡ insert m k w
+  put_twice exact m k v w = same_map total exact _ _ (λ q.
+      get-insert total (insert m k v) k w q ∙ ap (cond (eq_by_cmp R q k) (Some w)) (get-insert total m k v q) ∙ over (eq_by_cmp R q k) v w (get m q)
+      ∙ sym (get-insert total m k w q))
+
   -- the entries stay one for each key
   pub count_given : (es fs : List (K × X)) (k : K) (v : X) (before : Option X) → from_entries {R = R} fs ≡ insert (from_entries es) k v → before ≡ lookup (is_at (R k)) es
       → length fs ≡ length es + (if is_some before then 0 else 1) → len (from_entries {R = R} es) ≡ length es → len (from_entries {R = R} fs) ≡ length fs

@@ -1,14 +1,11 @@
 -- What maps by hash in a map by namespace read and write, as one map by the names of blobs.
-use borrow.Follows.Closed.{read_of}
 use Rattle.std.specs.Prelude.{◌≡◌, ℕ, Bool, true, false, cond, not, List, [], ◌∷◌, Option, None, Some, is_some, refl}
-use Rattle.std.proofs.Common.{ap, sym, ◌∙◌, inl, inr}
+use Rattle.std.proofs.Common.{ap, sym, ◌∙◌}
 use Rattle.std.specs.declared.cmp.Ordering.{Ordering}
 use Rattle.std.specs.declared.cmp.Ordering.TheVariants.{Less, Equal, Greater}
 use Rattle.std.specs.Ordering.{eq_by_cmp, is_eq, ordering_then}
 use Rattle.std.specs.Cmp.{eq_by_cmp_equiv}
-use Rattle.std.specs.Map.{lookup, set_value}
-use Rattle.std.specs.Option.{ghost_name_of, option_copied_mut}
-use Rattle.std.specs.Borrow.{MutBor}
+use Rattle.std.specs.Map.{lookup}
 use Rattle.std.specs.BTreeMap.{BTreeMap, is_at, WritesThrough}
 use Rattle.std.specs.FinMap.{FinMap, get, insert, remove, len, get-empty, get-insert, get-remove, get-retain_keys, same_map}
 use Rattle.ddc_names.specs.declared.hash.IoHash.{IoHash}
@@ -18,6 +15,7 @@ use Rattle.ddc_model.specs.Keys.{blob_cmp, blob_exact, blob_total}
 use Rattle.ddc_model.specs.State.{blob_name}
 use Rattle.ddc_state.specs.Nested.{with_space, in_spaces}
 use Rattle.ddc_state.proofs.Given.{len_given}
+use Rattle.ddc_state.proofs.Rows.{set_none}
 
 module _ {V : Type 0} where
   turned : (b : Bool) (o : Option V) → cond (not b) o None ≡ cond b None o
@@ -107,14 +105,6 @@ module _ {V : Type 0} where
   unmoved Equal now before h = h refl
   unmoved Greater now before h = refl
 
-  unwritten : (b : Bool) (e : IoHash × V) (es others : List (IoHash × V)) (o : Option V) (w : V) → None ≡ cond b (Some e.1) o → (None ≡ o → others ≡ es) → cond b ((e.0, w) ∷ es) (e ∷ others) ≡ e ∷ es
-  unwritten true e es others o w none rest = absurd (cc)
-  unwritten false e es others o w none rest = ap (λ (es : List (IoHash × V)). e ∷ es) (rest none)
-
-  set_none : (test : IoHash → Bool) (es : List (IoHash × V)) (w : V) → None ≡ lookup test es → set_value test es w ≡ es
-  set_none test [] w none = refl
-  set_none test (e ∷ es) w none = unwritten (test e.0) e es (set_value test es w) (lookup test es) w none (set_none test es w)
-
   -- the map of a namespace is written to, where it has one
   module _ (m n : BTreeMap (List ℕ) (BTreeMap IoHash V)) (name : BlobName) (old new : BTreeMap IoHash V) (was : Some old ≡ lookup (is_at (name_cmp name.space)) m.entries)
       (through : WritesThrough name_cmp (name_cmp name.space) m new n) where
@@ -148,9 +138,3 @@ module _ {V : Type 0} where
 
       pub len_written : len (in_spaces n.entries) ≡ len (in_spaces m.entries)
       len_written = len_written_at (lookup (is_at (io_hash_cmp name.hash)) old.entries) refl
-
-  -- a lender ends alike where it does at each value behind a reference, and at none
-  pub ends_alike : (r : Option (MutBor V)) (F G : V → FinMap blob_cmp V) (m n : FinMap blob_cmp V) → ((v : V) → Some v ≡ option_copied_mut r → (w : V) → F w ≡ G w) → m ≡ n
-      → read_of (ghost_name_of r) F m ≡ read_of (ghost_name_of r) G n
-  ends_alike None F G m n some none = λ i. inr (none i)
-  ends_alike (Some r) F G m n some none = λ i. inl (r.ghost_name, λ w. some r.now refl w i)

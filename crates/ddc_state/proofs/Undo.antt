@@ -7,8 +7,8 @@ use Rattle.ddc_model.specs.declared.rows.Blob.{Blob}
 use Rattle.ddc_model.specs.declared.entry.Stored.{Stored}
 use Rattle.ddc_model.specs.Keys.{blob_cmp, blob_total, blob_exact}
 use Rattle.ddc_model.specs.State.{blob_name, blob_at}
-use Rattle.ddc_model.specs.Entries.{is_root, with_blob, blob_of}
-use Rattle.ddc_state.specs.Views.{IndexView, in_state, without_blob}
+use Rattle.ddc_model.specs.Entries.{is_root, with_blob, blob_of, without_blob}
+use Rattle.ddc_state.specs.Views.{IndexView, in_state}
 use Rattle.ddc_state.proofs.Given.{put_undone}
 
 absent : (o : Option Blob) (same short few free : Bool) → (same && (not (is_some o) && short && few && free)) ≡ true → o ≡ None

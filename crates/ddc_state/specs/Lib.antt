@@ -1,5 +1,5 @@
 pub mod Views
 pub mod Nested
 pub mod MapLends
-pub mod NextBlobs
+pub mod NextKeys
 pub mod inside

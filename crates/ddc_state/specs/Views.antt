@@ -1,13 +1,11 @@
 -- What a contract sees of an index, and of the check of a blob's bytes.
 use Rattle.std.specs.Prelude.{ℕ, Bool, true, false, List, refl}
-use Rattle.std.specs.FinMap.{remove}
 use Rattle.std.specs.Coded.{Coded, code_by, coded×, coded_ℕ, coded_bool, coded_list}
-use Rattle.ddc_names.specs.declared.hash.IoHash.{IoHash}
 use Rattle.cb_fields.specs.declared.links.Link.{Link}
 use Rattle.cb_fields.specs.Language.{IsObject, IsNoObject}
 use Rattle.ddc_model.specs.Content.{Content}
 use Rattle.ddc_model.specs.Keys.{coded_link}
-use Rattle.ddc_model.specs.State.{State, coded_state, blob_name}
+use Rattle.ddc_model.specs.State.{State, coded_state}
 
 -- a store's state, and how often links were given out
 pub record IndexView : Type 0 where
@@ -28,7 +26,3 @@ TellsObject bytes false = IsNoObject bytes
 
 abbrev pub coded_content : Coded Content
 coded_content = code_by (List ℕ × (Bool × List Link)) (coded× (coded_list coded_ℕ) (coded× coded_bool (coded_list coded_link))) (λ c. (c.bytes, (c.is_object, c.links))) (λ p. record { bytes = p.0; is_object = p.1.0; links = p.1.1 }) (λ _. refl)
-
--- a state without a blob
-abbrev pub without_blob : State → List ℕ → IoHash → State
-without_blob s space hash = record s { blobs = remove s.blobs (blob_name space hash) }

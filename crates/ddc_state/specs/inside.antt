@@ -1,2 +1,4 @@
 pub mod Claimed
 pub mod Ranges
+pub mod Noted
+pub mod Expired

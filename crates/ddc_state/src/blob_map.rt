@@ -4,21 +4,15 @@ ghost use Rattle.std.specs.Prelude.{◌≡◌, IfOk, OnOk, OnErr, is_some, optio
 ghost use Rattle.std.specs.Option.{option_copied_mut};
 ghost use Rattle.std.specs.Borrow.{sem};
 ghost use Rattle.std.specs.FinMap as map;
-ghost use Rattle.std.specs.Map.{keys_of};
-ghost use Rattle.std.specs.List.Sorted.{IsStrictlySortedBy};
-ghost use Rattle.std.specs.declared.ops.Bound.TheVariants.{Unbounded};
-ghost use Rattle.std.specs.BTreeMap.Range.{entries_between};
-ghost use Rattle.ddc_names.specs.Orders.{io_hash_cmp};
 ghost use Rattle.ddc_state.specs.Nested.{in_spaces};
-ghost use Rattle.ddc_state.specs.NextBlobs.{NextBlob};
-ghost use Rattle.ddc_state.specs.inside.Ranges.{start_of, first_hash};
+ghost use Rattle.ddc_state.specs.NextKeys.{NextBlob};
 
+use crate::ranges::{first_from, start_after};
 use ddc_model::BlobName;
 use ddc_names::{IoHash, Namespace, NoMemory};
 use std::alloc::Global;
 use std::collections::BTreeMap;
 use std::marker::Model;
-use std::ops::Bound;
 
 /// A map by the names of blobs, in which each namespace stands once. Contracts see the finite map.
 #[derive(Drop)]
@@ -132,26 +126,6 @@ impl<V: Drop> BlobMap<V> {
         self.len -= 1;
         Some(value)
     }
-}
-
-fn start_after(after: Option<IoHash>) -> Bound<IoHash>
-    ensures { result ≡ start_of after }
-{
-    match after {
-        Some(hash) => Bound::Excluded(hash),
-        None => Bound::Unbounded,
-    }
-}
-
-// The first hash of the range that begins so.
-fn first_from<V>(blobs: &BTreeMap<IoHash, V>, start: Bound<IoHash>) -> Option<IoHash>
-    ensures first { result ≡ first_hash (entries_between io_hash_cmp start Unbounded blobs.now.entries) }
-    ensures ordered { IsStrictlySortedBy io_hash_cmp (keys_of blobs.now.entries) }
-{
-    for (hash, _) in blobs.range((start, Bound::Unbounded)) {
-        return Some(*hash);
-    }
-    None
 }
 
 // Gives a blob its value, and tells whether it had one.

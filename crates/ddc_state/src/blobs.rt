@@ -4,7 +4,7 @@ ghost use Rattle.std.specs.Prelude.{◌≡◌, OnOk, OnErr, None, is_some, optio
 ghost use Rattle.std.specs.FinMap as map;
 ghost use Rattle.ddc_model.specs.Entries.{pinned};
 ghost use Rattle.ddc_model.specs.Counts.{links_of_all};
-ghost use Rattle.ddc_state.specs.NextBlobs.{NextBlob};
+ghost use Rattle.ddc_state.specs.NextKeys.{NextBlob};
 
 use crate::blob_map::BlobMap;
 use crate::packed::PackedBlob;

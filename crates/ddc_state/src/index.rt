@@ -5,52 +5,57 @@ ghost use Rattle.std.specs.Option.{unwrap_or};
 ghost use Rattle.std.specs.FinMap as map;
 ghost use Rattle.ddc_model.specs.State.{blob_at, empty_state};
 ghost use Rattle.ddc_model.specs.Extents.{IsPlaced, free_run, units_of};
-ghost use Rattle.ddc_model.specs.Entries.{after, legal};
+ghost use Rattle.ddc_model.specs.Entries.{after, has_room_for_events, legal};
 ghost use Rattle.ddc_model.specs.Closure.{links_in};
 ghost use Rattle.ddc_model.specs.Counts.{link_count};
 ghost use Rattle.ddc_model.specs.Limits.{most_bytes};
-ghost use Rattle.ddc_state.specs.NextBlobs.{NextBlob};
+ghost use Rattle.ddc_state.specs.NextKeys.{NextBlob, NextSpace};
 
 mod changes;
+mod events;
+mod expiry;
 mod legal;
+mod room;
 
 use crate::blobs::BlobTable;
 use crate::packed::PackedBlob;
 use crate::spaces::SpaceTable;
 use blob_store::BlobStore;
 use cb_fields::Link;
-use ddc_model::{BlobName, BlobRow, Entry, Limits, SpaceRow};
+use ddc_model::{BlobName, BlobRow, Cursor, Entry, Limits, SpaceRow};
 use ddc_names::{IoHash, Namespace, NoMemory};
-use legal::is_time_of;
 use ref_store::RefTable;
+use replication_log::EventLog;
 use std::alloc::Global;
 use std::marker::Model;
 
-/// The namespaces, blobs and references of a store, within its limits, and the greatest hour of a change. Contracts
-/// see the state, and the number of times that links were given out. The units of the blobs are claimed, so that no
-/// two blobs have one in common.
+/// The namespaces, blobs and references of a store, within its limits, the events of each namespace, how far followers
+/// have come, and the greatest hour of a change. Contracts see the state, and the number of times that links were given
+/// out. The units of the blobs are claimed, so that no two blobs have one in common.
 #[derive(Drop)]
 pub struct Index {
     limits: Limits,
     hour: u32,
-    spaces: SpaceTable,
+    spaces: SpaceTable<SpaceRow>,
     blobs: BlobTable,
     area: BlobStore,
     refs: RefTable,
+    logs: SpaceTable<EventLog>,
+    cursors: SpaceTable<Cursor>,
     reads: u64,
 }
 
 impl Model for Index {
     ghost use Rattle.ddc_state.specs.Views.{IndexView, coded_index};
-    ghost use Rattle.ddc_state.specs.inside.Claimed.{AreClaims};
+    ghost use Rattle.ddc_state.specs.inside.Claimed.{IsIndexed};
 
     ghost Value = { IndexView };
 
     ghost coded = { coded_index };
 
-    ghost view = { λ index. record { state = record { limits = index.limits; hour = index.hour; spaces = index.spaces; blobs = index.blobs; slots = index.refs }; reads = index.reads } };
+    ghost view = { λ index. record { state = record { limits = index.limits; hour = index.hour; spaces = index.spaces; blobs = index.blobs; slots = index.refs; logs = index.logs; cursors = index.cursors }; reads = index.reads } };
 
-    ghost invariant = { λ index. AreClaims index.area index.limits.units index.blobs };
+    ghost invariant = { λ index. IsIndexed index.area index.limits index.blobs };
 }
 
 /// One read of links that was counted. It can't be made twice or thrown away, so that no links are given out uncounted.
@@ -73,6 +78,8 @@ impl Index {
             blobs: BlobTable::new(alloc),
             area: BlobStore::new(alloc, limits.units),
             refs: RefTable::new(alloc),
+            logs: SpaceTable::new(alloc),
+            cursors: SpaceTable::new(alloc),
             reads: 0,
         }
     }
@@ -81,31 +88,24 @@ impl Index {
     pub fn fits(&self, entry: &Entry) -> bool
         ensures { result ≡ legal self.now.state entry.now }
     {
+        self.has_room_for_events(entry) && self.fits_state(entry)
+    }
+
+    /// Whether the numbers of a namespace's events have room for those that an entry notes.
+    pub fn has_room_for_events(&self, entry: &Entry) -> bool
+        ensures { result ≡ has_room_for_events self.now.state entry.now }
+    {
         match entry {
-            Entry::Space { ttl, pin, .. } => is_time_of(*ttl) && is_time_of(*pin),
-            Entry::Upload { space, blob, .. } => self.spaces.has(space) && self.takes(space, blob),
-            Entry::Repin { space, hash, .. } => self.spaces.has(space) && self.has(space, hash),
             Entry::Put {
                 name,
                 root,
-                fresh,
+                whole,
                 ..
-            } => {
-                let space = &name.get().space;
-                self.spaces.has(space) && self.takes_root(space, root, fresh)
-            }
-            Entry::Finalise { name, hash, .. } => {
-                let name = name.get();
-                self.spaces.has(&name.space) && self.waits_for(name, hash)
-            }
-            Entry::Delete { name, .. } => {
-                let name = name.get();
-                self.spaces.has(&name.space) && self.refs.get(name).is_some()
-            }
-            Entry::Touch { name, .. } => {
-                let name = name.get();
-                self.spaces.has(&name.space) && self.serves(name)
-            }
+            } => !*whole || self.has_room_to_add(name.get(), root),
+            Entry::Finalise { name, hash, .. } => self.has_room_to_add(name.get(), hash),
+            Entry::Delete { name, .. } => self.has_room_to_delete(name.get()),
+            Entry::Expire { space, spots, .. } => self.has_room_to_expire(space, spots.as_slice()),
+            _ => true,
         }
     }
 
@@ -113,8 +113,9 @@ impl Index {
     ///
     /// # Errors
     ///
-    /// `NoMemory` where there is none for a row that isn't there yet or for the claim of a blob's units, or where the
-    /// links of all blobs would be more than a `u64` counts. The index is then as before.
+    /// `NoMemory` where there is none for a row that isn't there yet, for the claim of a blob's units or for an event
+    /// of a log that grows, or where the links of all blobs would be more than a `u64` counts. The index is then as
+    /// before.
     pub fn apply(&mut self, alloc: Global, entry: &Entry) -> Result<(), NoMemory>
         requires { legal self.old.state entry.now ≡ true }
         ensures ok { OnOk result (self.new.state ≡ after self.old.state entry.now) }
@@ -135,12 +136,32 @@ impl Index {
                 whole,
                 hour,
             } => self.apply_put(alloc, name.get(), root, fresh, *whole, *hour),
-            Entry::Finalise { name, hash, hour } => self.apply_finalise(name.get(), hash, *hour),
-            Entry::Delete { name, hour } => {
-                self.apply_delete(name.get(), *hour);
+            Entry::Finalise { name, hash, hour } => {
+                self.apply_finalise(alloc, name.get(), hash, *hour)
+            }
+            Entry::Delete { name, hour } => self.apply_delete(alloc, name.get(), *hour),
+            Entry::Touch { name, hour } => self.apply_touch(name.get(), *hour),
+            Entry::Expire { space, spots, hour } => {
+                self.apply_expire(alloc, space, spots.as_slice(), *hour)
+            }
+            Entry::Swept { space, hashes } => {
+                self.apply_swept(space, hashes.as_slice());
                 Ok(())
             }
-            Entry::Touch { name, hour } => self.apply_touch(name.get(), *hour),
+            Entry::Cursor { space, cursor } => self.apply_cursor(space, cursor.get()),
+            Entry::BaseHour { hour } => {
+                self.raise(*hour);
+                Ok(())
+            }
+            Entry::BaseSlot {
+                name,
+                done,
+                pending,
+                seen,
+            } => self.apply_base_slot(name.get(), *done, *pending, *seen),
+            Entry::BaseEvent { name, number, op } => {
+                self.note_numbered(alloc, name.get(), *number, *op)
+            }
         }
     }
 
@@ -202,7 +223,28 @@ impl Index {
     pub fn space(&self, space: &Namespace) -> Option<SpaceRow>
         ensures { result ≡ map.get self.now.state.spaces space.now }
     {
-        self.spaces.get(space)
+        self.spaces.get(space).copied()
+    }
+
+    /// The first namespace after another, or the first of all.
+    pub fn next_space(&self, after: Option<Namespace>) -> Option<Namespace>
+        ensures { NextSpace self.now.state.spaces after result }
+    {
+        self.spaces.next(after)
+    }
+
+    /// The events of a namespace, and `None` where it never noted one.
+    pub fn log(&self, space: &Namespace) -> Option<&EventLog>
+        ensures { option_copied result ≡ map.get self.now.state.logs space.now }
+    {
+        self.logs.get(space)
+    }
+
+    /// How far the follower of a namespace has come, where that was noted.
+    pub fn cursor(&self, space: &Namespace) -> Option<Cursor>
+        ensures { result ≡ map.get self.now.state.cursors space.now }
+    {
+        self.cursors.get(space).copied()
     }
 
     /// The references.

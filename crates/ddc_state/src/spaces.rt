@@ -1,38 +1,41 @@
-//! The table of namespaces.
+//! A table by namespaces.
 
-ghost use Rattle.std.specs.Prelude.{◌≡◌, OnOk, OnErr, is_some};
+ghost use Rattle.std.specs.Prelude.{◌≡◌, OnOk, OnErr, is_some, option_copied};
+ghost use Rattle.std.specs.Option.{option_copied_mut};
+ghost use Rattle.std.specs.Borrow.{sem};
 ghost use Rattle.std.specs.FinMap as map;
+ghost use Rattle.ddc_state.specs.NextKeys.{NextSpace};
 
-use ddc_model::SpaceRow;
+use crate::ranges::{first_from, start_after};
 use ddc_names::{Namespace, NoMemory};
 use std::alloc::Global;
 use std::collections::BTreeMap;
 use std::marker::Model;
 
-// Contracts see the finite map.
+// A table with a row for some of the namespaces. Contracts see the finite map.
 #[derive(Drop)]
-pub(crate) struct SpaceTable {
-    rows: BTreeMap<Namespace, SpaceRow>,
+pub(crate) struct SpaceTable<V> {
+    rows: BTreeMap<Namespace, V>,
 }
 
-impl Model for SpaceTable {
+impl<V> Model for SpaceTable<V> {
     ghost use Rattle.std.specs.Prelude.{◌≡◌, length};
     ghost use Rattle.std.specs.FinMap as map;
     ghost use Rattle.ddc_names.specs.Orders.{name_cmp, coded_name};
-    ghost use Rattle.ddc_model.specs.declared.rows.SpaceRow.{SpaceRow};
-    ghost use Rattle.ddc_model.specs.Keys.{coded_space_row};
 
-    ghost Value = { map.FinMap name_cmp SpaceRow };
+    ghost Value = { map.FinMap name_cmp V };
 
-    ghost coded = { map.code coded_name coded_space_row };
+    ghost coded = { map.code coded_name V.code };
 
     ghost view = { λ table. map.from_entries table.rows.entries };
 
     ghost invariant = { λ table. map.len (map.from_entries {R = name_cmp} table.rows.entries) ≡ length table.rows.entries };
 }
 
-impl SpaceTable {
-    pub(crate) fn new(alloc: Global) -> SpaceTable
+impl<V> SpaceTable<V> {
+    ghost use Rattle.ddc_state.specs.MapLends.{lends_row};
+
+    pub(crate) fn new(alloc: Global) -> SpaceTable<V>
         ensures { result ≡ map.empty }
     {
         SpaceTable {
@@ -40,10 +43,10 @@ impl SpaceTable {
         }
     }
 
-    pub(crate) fn get(&self, space: &Namespace) -> Option<SpaceRow>
-        ensures { result ≡ map.get self.now space.now }
+    pub(crate) fn get(&self, space: &Namespace) -> Option<&V>
+        ensures { option_copied result ≡ map.get self.now space.now }
     {
-        self.rows.get(space).copied()
+        self.rows.get(space)
     }
 
     pub(crate) fn has(&self, space: &Namespace) -> bool
@@ -52,17 +55,44 @@ impl SpaceTable {
         self.get(space).is_some()
     }
 
-    pub(crate) fn set(&mut self, space: &Namespace, row: SpaceRow) -> Result<(), NoMemory>
-        ensures ok { OnOk result (self.new ≡ map.insert self.old space.now row) }
-        ensures err { OnErr result (self.new ≡ self.old) }
+    // The row of a namespace, to write to, where the table has one.
+    pub(crate) fn get_mut(&mut self, space: &Namespace) -> Option<&mut V>
+        ensures* writes_back { sem 𝓛 (lends_row V.row self.entry space.now result) }
+        ensures value { option_copied_mut result ≡ map.get self.old space.now }
     {
-        self.rows.insert(*space, row)?;
-        Ok(())
+        self.rows.get_mut(space)
+    }
+
+    // The first namespace after another one that has a row, or the first of all.
+    pub(crate) fn next(&self, after: Option<Namespace>) -> Option<Namespace>
+        ensures { NextSpace self.now after result }
+    {
+        first_from(&self.rows, start_after(after))
     }
 
     pub(crate) fn len(&self) -> u64
         ensures { result ≡ map.len self.now }
     {
         self.rows.len() as u64
+    }
+}
+
+impl<V: Drop> SpaceTable<V> {
+    pub(crate) fn set(&mut self, space: &Namespace, row: V) -> Result<(), NoMemory>
+        ensures ok { OnOk result (self.new ≡ map.insert self.old space.now row) }
+        ensures err { OnErr result (self.new ≡ self.old) }
+    {
+        self.rows.insert(*space, row)?;
+        Ok(())
+    }
+}
+
+impl<V: Copy + Drop> SpaceTable<V> {
+    pub(crate) fn set_copy(&mut self, space: &Namespace, row: &V) -> Result<(), NoMemory>
+        ensures ok { OnOk result (self.new ≡ map.insert self.old space.now row.now) }
+        ensures err { OnErr result (self.new ≡ self.old) }
+    {
+        self.set(space, *row)?;
+        Ok(())
     }
 }

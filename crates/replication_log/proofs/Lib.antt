@@ -1,3 +1,4 @@
 pub mod Numbers
 pub mod Newest
+pub mod Each
 pub mod Readings

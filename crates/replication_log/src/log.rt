@@ -3,9 +3,10 @@
 ghost use Rattle.std.specs.Prelude.{◌≡◌, ◌+◌, ◌-◌, ◌^◌, ◌<◌, ◌≤◌, length, true, OnOk, OnErr, IfOk};
 ghost use Rattle.replication_log.specs.declared.event.Event.{Event};
 ghost use Rattle.replication_log.specs.Logs.{empty_log, with_event, oldest_of, IsLog, can_follow};
+ghost use Rattle.replication_log.specs.Several.{with_each};
 ghost use Rattle.replication_log.specs.LogPages.{ReadsOn};
 
-use crate::ring::{first_events, push_newest};
+use crate::ring::{first_events, push_each, push_newest};
 use crate::{Event, EventOp, LogFault};
 use ddc_names::{NoMemory, RefSpot, Rows};
 use std::alloc::Global;
@@ -64,6 +65,24 @@ impl EventLog {
         Ok(number)
     }
 
+    /// Adds an event with this op for each of these references, with the next numbers: all of them or none. Where the log
+    /// then has more events than it keeps, the oldest ones go.
+    ///
+    /// # Errors
+    ///
+    /// `NoMemory` where the log has fewer events than it keeps and can't grow. It is then as before.
+    pub fn append_all(&mut self, spots: &[RefSpot], op: EventOp) -> Result<(), NoMemory>
+        requires { self.old.last + length spots.now < 2 ^ 64 }
+        ensures ok { OnOk result (self.new ≡ with_each self.old op spots.now) }
+        ensures err { OnErr result (self.new ≡ self.old) }
+        ensures only_while_it_grows { OnErr result (length self.old.events < self.old.kept) }
+    {
+        let (kept, last) = (self.kept, self.last);
+        push_each(&mut self.events, kept, last, spots, op)?;
+        self.last = last + spots.len() as u64;
+        Ok(())
+    }
+
     /// Adds an event that was read back: any one to a log of no events, else the one with the next number.
     ///
     /// # Errors
@@ -79,6 +98,19 @@ impl EventLog {
         push_newest(&mut self.events, kept, event)?;
         self.last = number;
         Ok(())
+    }
+
+    /// Whether an event with this number can be added: any number from 1 on to a log of no events, else the next one.
+    pub fn can_follow(&self, number: u64) -> bool
+        ensures { result ≡ can_follow self.now number }
+    {
+        if self.events.is_empty() && 1 <= number {
+            return true;
+        }
+        match self.last.checked_add(1) {
+            Some(next) => number == next,
+            None => false,
+        }
     }
 
     /// The number of the last event, and 0 where the log never had one.

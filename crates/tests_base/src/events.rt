@@ -49,3 +49,26 @@ fn a_log_gives_the_events_that_it_keeps(rt: HostRuntime) -> Result<(), Fail> {
     assert!(rt; last_after(rt.alloc(), &log, 6) == ahead);
     Ok(())
 }
+
+#[test]
+fn events_are_added_together(rt: HostRuntime) -> Result<(), Fail> {
+    let bucket = Bucket::parse("maps")?;
+    let mut log = EventLog::new(rt.alloc(), 3);
+    let spots = [
+        event_of(bucket, 1).spot,
+        event_of(bucket, 2).spot,
+        event_of(bucket, 3).spot,
+        event_of(bucket, 4).spot,
+    ];
+    assert!(rt; log.can_follow(40));
+    assert!(rt; log.append_all(&spots, EventOp::Deleted).is_ok());
+    assert_eq!(rt; (log.oldest(), log.last()), (2, 4));
+    assert!(rt; log.can_follow(5));
+    assert!(rt; !log.can_follow(4));
+    let last = Event {
+        op: EventOp::Deleted,
+        ..event_of(bucket, 4)
+    };
+    assert!(rt; last_after(rt.alloc(), &log, 1) == Ok(Some((3, last))));
+    Ok(())
+}

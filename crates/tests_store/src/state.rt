@@ -1,8 +1,8 @@
 //! The effect of a few entries. Entries by the hundred, legal ones and others, are compared from outside, through the program.
 
 use cb_fields::{Link, LinkKind};
-use ddc_model::{BlobRow, Entry, Extent, Limits, SpaceRow, Stored};
-use ddc_names::{IoHash, Namespace, NoMemory, Rows};
+use ddc_model::{BlobRow, Cursor, CursorBox, Entry, Extent, Limits, NameBox, SpaceRow, Stored};
+use ddc_names::{Bucket, IoHash, Namespace, NoMemory, RefKey, RefName, RefSpot, Rows};
 use ddc_state::{Checked, Index};
 use io_hash::{Intake, Whole};
 use std::alloc::Global;
@@ -74,6 +74,85 @@ fn entries_that_fit_are_made_and_others_refused(rt: HostRuntime) -> Result<(), F
         },
     };
     assert_eq!(rt; index.blob(&space, &IoHash([1; 20])), Some(row));
+    Ok(())
+}
+
+fn put_at(alloc: Global, name: RefName) -> Result<Entry, NoMemory> {
+    Ok(Entry::Put {
+        name: NameBox::new(alloc, name)?,
+        root: IoHash([1; 20]),
+        fresh: None,
+        whole: true,
+        hour: 101,
+    })
+}
+
+fn expiry_of(alloc: Global, name: RefName) -> Result<Entry, NoMemory> {
+    Ok(Entry::Expire {
+        space: name.space,
+        spots: Rows::of_vec(Vec::from_slice(alloc, &[name.spot])?),
+        hour: 200,
+    })
+}
+
+fn sweep_of(alloc: Global, space: Namespace) -> Result<Entry, NoMemory> {
+    Ok(Entry::Swept {
+        space,
+        hashes: Rows::of_vec(Vec::from_slice(alloc, &[IoHash([1; 20])])?),
+    })
+}
+
+fn cursor_at(alloc: Global, space: Namespace, cursor: Cursor) -> Result<Entry, NoMemory> {
+    Ok(Entry::Cursor {
+        space,
+        cursor: CursorBox::new(alloc, cursor)?,
+    })
+}
+
+#[test]
+fn what_expires_and_is_swept_goes(rt: HostRuntime) -> Result<(), Fail> {
+    let space = Namespace::parse("game")?;
+    let spot = RefSpot {
+        bucket: Bucket::parse("maps")?,
+        key: RefKey([7; 20]),
+    };
+    let Some((mut index, _)) = index_of(rt.alloc(), space) else {
+        panic!(rt; "no index");
+    };
+    let name = RefName { space, spot };
+    let put = put_at(rt.alloc(), name)?;
+    let expiry = expiry_of(rt.alloc(), name)?;
+    let sweep = sweep_of(rt.alloc(), space)?;
+    assert!(rt; !index.fits(&expiry));
+    assert!(rt; index.log(&space).is_none());
+    assert!(rt; index.has_room_for_events(&put) && makes(rt.alloc(), &mut index, &put));
+    assert!(rt; makes(rt.alloc(), &mut index, &expiry));
+    assert!(rt; makes(rt.alloc(), &mut index, &sweep));
+    assert!(rt; !index.fits(&sweep));
+    assert_eq!(rt; index.log(&space).map(|log| log.last()), Some(2));
+    assert_eq!(rt; (index.refs().len(), index.blob_count()), (0, 0));
+    assert_eq!(rt; (index.free_run(67_108_864), index.hour()), (Some(0), 200));
+    Ok(())
+}
+
+#[test]
+fn a_cursor_is_noted(rt: HostRuntime) -> Result<(), Fail> {
+    let space = Namespace::parse("game")?;
+    let Some((mut index, _)) = index_of(rt.alloc(), space) else {
+        panic!(rt; "no index");
+    };
+    let cursor = Cursor {
+        walking: true,
+        after: 3,
+        top: 5,
+        from: None,
+    };
+    let entry = cursor_at(rt.alloc(), space, cursor)?;
+    assert!(rt; index.cursor(&space).is_none());
+    assert!(rt; makes(rt.alloc(), &mut index, &entry));
+    assert!(rt; index.cursor(&space) == Some(cursor));
+    assert!(rt; index.next_space(None) == Some(space));
+    assert!(rt; index.next_space(Some(space)).is_none());
     Ok(())
 }
 

@@ -4,6 +4,7 @@ use Rattle.std.specs.FinMap.{len}
 use Rattle.ddc_disk.specs.Disk.{Meaning, overwritten}
 use Rattle.ddc_disk.specs.Images.{Images}
 use Rattle.ddc_journal.specs.Pairs.{IsPairOf}
+use Rattle.ddc_entry.specs.Spelling.{IsCounted}
 use Rattle.ddc_names.specs.declared.reference.RefName.{RefName}
 use Rattle.ddc_model.specs.declared.rows.Extent.{Extent}
 use Rattle.ddc_model.specs.declared.entry.Stored.{Stored}
@@ -17,7 +18,7 @@ use Rattle.ddc_model.specs.Entries.{after, extent_of, legal}
 use Rattle.ddc_model.specs.Counts.{fresh_of, lacks_run, link_count, added_blobs, added_links, passes}
 use Rattle.ddc_model.specs.Sound.{Cache, AreWhole, IsSound}
 use Rattle.ddc_model.specs.Commands.{changed, touch_entry}
-use Rattle.ddc_model.specs.History.{broken_by, no_room_for, IsLawful, Past}
+use Rattle.ddc_model.specs.History.{broken_by, no_room_for, IsLawful, Leases, Past}
 use Rattle.ddc_model.specs.Reads.{where_room}
 use Rattle.blob_store.specs.Bytes.{first_byte, ChangesOnly}
 use Rattle.ddc_opening.specs.Opening.{version}
@@ -60,11 +61,13 @@ abbrev pub StartsLow : Option Stored → Type 0
 StartsLow None = ⊤
 StartsLow (Some fresh) = fresh.len ≡ 0 → fresh.start ≡ 0
 
--- the entry is legal and lawful, comes with its blob, and leaves the references whole and what is sound sound
+-- the entry is legal and lawful, names as many references or blobs as it may, comes with its blob, and leaves the references
+-- whole and what is sound sound
 pub record IsFit (cache : Cache) (entry : Entry) (blob : Option (List ℕ)) : Type 0 where
   pub legal : legal cache.index entry ≡ true
+  pub counted : IsCounted entry
   pub starts : StartsLow (fresh_of entry)
-  pub lawful : IsLawful cache.index entry
+  pub lawful : (leases : Leases) → IsLawful leases cache.index entry
   pub whole : AreWhole (after cache.index entry)
   pub brings : Brings (fresh_of entry) blob
   pub sound : IsSound cache → IsSound (changed cache (bytes_or_none blob) (Some entry))

@@ -1,5 +1,5 @@
 -- What the functions that read a part answer: the part at the front of the bytes, and the bytes after it.
-use Rattle.std.specs.Prelude.{◌≡◌, ℕ, zero, suc, Bool, true, false, List, [], ◌∷◌, length, take, drop, Option, Some, None, Result, Ok, Err, nat_lt, ◌==◌, if◌then◌else◌}
+use Rattle.std.specs.Prelude.{◌≡◌, ℕ, zero, suc, Bool, true, false, List, [], ◌∷◌, length, take, drop, Option, Some, None, Result, Ok, Err, nat_lt, nat_le, ◌&&◌, ◌==◌, if◌then◌else◌}
 use Rattle.std.specs.Result.{result_ok}
 use Rattle.std.specs.Int.{w32, w64, from_le_bytes}
 use Rattle.ddc_names.specs.Names.{name_of}
@@ -10,9 +10,12 @@ use Rattle.ddc_names.specs.declared.reference.RefSpot.{RefSpot}
 use Rattle.cb_fields.specs.declared.links.Link.{Link}
 use Rattle.cb_fields.specs.declared.links.LinkKind.{LinkKind}
 use Rattle.cb_fields.specs.declared.links.LinkKind.TheVariants.{Object, Binary}
+use Rattle.replication_log.specs.declared.event.EventOp.{EventOp}
+use Rattle.replication_log.specs.declared.event.EventOp.TheVariants.{Added, Deleted}
+use Rattle.ddc_model.specs.declared.rows.Cursor.{Cursor as CursorRow}
 use Rattle.ddc_model.specs.declared.entry.Stored.{Stored}
 use Rattle.ddc_model.specs.declared.entry.Entry.{Entry}
-use Rattle.ddc_model.specs.declared.entry.Entry.TheVariants.{Space, Upload, Repin, Put, Finalise, Delete, Touch}
+use Rattle.ddc_model.specs.declared.entry.Entry.TheVariants.{Space, Upload, Repin, Put, Finalise, Delete, Touch, Expire, Swept, Cursor, BaseHour, BaseSlot, BaseEvent}
 use Rattle.ddc_entry.specs.declared.parts.Unread.{Unread}
 use Rattle.ddc_entry.specs.declared.parts.Unread.TheVariants.{Refused, NoMemory}
 
@@ -60,6 +63,24 @@ none_at bytes = None
 abbrev pub given : {A : Type 0} → A → Reader A
 given a bytes = Some (a, bytes)
 
+-- a part, or none
+unfoldable pub optional_at : {A : Type 0} → Reader A → Reader (Option A)
+optional_at read = tagged 0 (given None) (tagged 1 (made Some read) none_at)
+
+-- so many parts
+unfoldable pub many_at : {A : Type 0} → Reader A → ℕ → Reader (List A)
+many_at read zero bytes = Some ([], bytes)
+many_at read (suc n) bytes = do
+  first ← read bytes
+  others ← many_at read n first.1
+  Some (first.0 ∷ others.0, others.1)
+
+-- a count, and so many parts
+unfoldable pub counted_at : {A : Type 0} → Reader ℕ → Reader A → Reader (List A)
+counted_at count read bytes = do
+  n ← count bytes
+  many_at read n.0 n.1
+
 -- ---- the parts
 
 -- so many bytes
@@ -71,6 +92,11 @@ four_at = made (from_le_bytes w32) (bytes_at 4)
 
 unfoldable pub eight_at : Reader ℕ
 eight_at = made (from_le_bytes w64) (bytes_at 8)
+
+-- a byte from 1 to 64
+unfoldable pub count_at : Reader ℕ
+count_at [] = None
+count_at (n ∷ bytes) = if nat_le 1 n && nat_le n 64 then Some (n, bytes) else None
 
 -- a length byte and so many bytes
 unfoldable pub sized_at : Reader (List ℕ)
@@ -104,24 +130,11 @@ kind_at = tagged 0 (given Object) (tagged 1 (given Binary) none_at)
 unfoldable pub link_at : Reader Link
 link_at = made (λ (p : LinkKind × IoHash). let link : Link = record { kind = p.0; hash = p.1 } in link) (both kind_at hash_at)
 
--- so many links
-unfoldable pub links_at : ℕ → Reader (List Link)
-links_at zero bytes = Some ([], bytes)
-links_at (suc n) bytes = do
-  first ← link_at bytes
-  others ← links_at n first.1
-  Some (first.0 ∷ others.0, others.1)
-
-unfoldable pub counted_links_at : Reader (List Link)
-counted_links_at bytes = do
-  count ← four_at bytes
-  links_at count.0 count.1
-
 unfoldable pub stored_at : Reader Stored
-stored_at = made (λ (p : IoHash × (ℕ × (ℕ × List Link))). let blob : Stored = record { hash = p.0; len = p.1.0; start = p.1.1.0; links = p.1.1.1 } in blob) (both hash_at (both eight_at (both eight_at counted_links_at)))
+stored_at = made (λ (p : IoHash × (ℕ × (ℕ × List Link))). let blob : Stored = record { hash = p.0; len = p.1.0; start = p.1.1.0; links = p.1.1.1 } in blob) (both hash_at (both eight_at (both eight_at (counted_at four_at link_at))))
 
-unfoldable pub fresh_at : Reader (Option Stored)
-fresh_at = tagged 0 (given None) (tagged 1 (made Some stored_at) none_at)
+unfoldable pub op_at : Reader EventOp
+op_at = tagged 0 (made Added hash_at) (tagged 1 (given Deleted) none_at)
 
 -- ---- the entries
 
@@ -135,7 +148,7 @@ unfoldable pub repin_at : Reader Entry
 repin_at = made (λ (p : List ℕ × (IoHash × ℕ)). Repin p.0 p.1.0 p.1.1) (both name_at (both hash_at four_at))
 
 unfoldable pub put_at : Reader Entry
-put_at = made (λ (p : RefName × (IoHash × (Option Stored × (Bool × ℕ)))). Put p.0 p.1.0 p.1.1.0 p.1.1.1.0 p.1.1.1.1) (both ref_name_at (both hash_at (both fresh_at (both flag_at four_at))))
+put_at = made (λ (p : RefName × (IoHash × (Option Stored × (Bool × ℕ)))). Put p.0 p.1.0 p.1.1.0 p.1.1.1.0 p.1.1.1.1) (both ref_name_at (both hash_at (both (optional_at stored_at) (both flag_at four_at))))
 
 unfoldable pub finalise_at : Reader Entry
 finalise_at = made (λ (p : RefName × (IoHash × ℕ)). Finalise p.0 p.1.0 p.1.1) (both ref_name_at (both hash_at four_at))
@@ -146,6 +159,25 @@ delete_at = made (λ (p : RefName × ℕ). Delete p.0 p.1) (both ref_name_at fou
 unfoldable pub touch_at : Reader Entry
 touch_at = made (λ (p : RefName × ℕ). Touch p.0 p.1) (both ref_name_at four_at)
 
+unfoldable pub expire_at : Reader Entry
+expire_at = made (λ (p : List ℕ × (List RefSpot × ℕ)). Expire p.0 p.1.0 p.1.1) (both name_at (both (counted_at count_at spot_at) four_at))
+
+unfoldable pub swept_at : Reader Entry
+swept_at = made (λ (p : List ℕ × List IoHash). Swept p.0 p.1) (both name_at (counted_at count_at hash_at))
+
+unfoldable pub cursor_at : Reader Entry
+cursor_at = made (λ (p : List ℕ × (Bool × (ℕ × (ℕ × Option RefSpot)))). let cursor : CursorRow = record { walking = p.1.0; after = p.1.1.0; top = p.1.1.1.0; from = p.1.1.1.1 } in Cursor p.0 cursor)
+    (both name_at (both flag_at (both eight_at (both eight_at (optional_at spot_at)))))
+
+unfoldable pub base_hour_at : Reader Entry
+base_hour_at = made BaseHour four_at
+
+unfoldable pub base_slot_at : Reader Entry
+base_slot_at = made (λ (p : RefName × (Option IoHash × (Option IoHash × ℕ))). BaseSlot p.0 p.1.0 p.1.1.0 p.1.1.1) (both ref_name_at (both (optional_at hash_at) (both (optional_at hash_at) four_at)))
+
+unfoldable pub base_event_at : Reader Entry
+base_event_at = made (λ (p : List ℕ × (ℕ × (RefSpot × EventOp))). let whole : RefName = record { space = p.0; spot = p.1.1.0 } in BaseEvent whole p.1.0 p.1.1.1) (both name_at (both eight_at (both spot_at op_at)))
+
 unfoldable pub entry_at : Reader Entry
 entry_at =
     tagged 0x01 space_at
@@ -154,4 +186,10 @@ entry_at =
     (tagged 0x04 put_at
     (tagged 0x05 finalise_at
     (tagged 0x06 delete_at
-    (tagged 0x07 touch_at none_at))))))
+    (tagged 0x07 touch_at
+    (tagged 0x08 expire_at
+    (tagged 0x09 swept_at
+    (tagged 0x0a cursor_at
+    (tagged 0x0b base_hour_at
+    (tagged 0x0c base_slot_at
+    (tagged 0x0d base_event_at none_at))))))))))))

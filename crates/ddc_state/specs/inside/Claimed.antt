@@ -3,6 +3,7 @@ use Rattle.std.specs.Prelude.{◌≡◌, ℕ, ◌≤◌, ◌<◌, ◌^◌, ◌�
 use Rattle.std.specs.FinMap.{FinMap, get}
 use Rattle.ddc_model.specs.declared.rows.Blob.{Blob}
 use Rattle.ddc_model.specs.declared.rows.BlobName.{BlobName}
+use Rattle.ddc_model.specs.declared.rows.Limits.{Limits}
 use Rattle.ddc_model.specs.Keys.{blob_cmp}
 use Rattle.ddc_model.specs.Extents.{extent, ArePlaced}
 use Rattle.blob_store.specs.Claims.{Claims, IsClaim}
@@ -17,3 +18,8 @@ pub record AreClaims (claims : Claims) (limit : ℕ) (blobs : FinMap blob_cmp Bl
   pub low : limit ≤ 2 ^ 51
   pub file : claims.units ≡ limit
   pub exactly : (start units : ℕ) → IsClaim claims start units ↔ ((0 < units) × HasExtent blobs start units)
+
+-- the same of an index within these limits, under which a log keeps an event at least
+pub record IsIndexed (claims : Claims) (limits : Limits) (blobs : FinMap blob_cmp Blob) : Type 0 where
+  pub kept : 1 ≤ limits.kept
+  pub claimed : AreClaims claims limits.units blobs

@@ -1,15 +1,17 @@
 //! The change that each kind of entry makes.
 
-ghost use Rattle.std.specs.Prelude.{◌≡◌, ◌≤◌, true, OnOk, OnErr, IfOk};
+ghost use Rattle.std.specs.Prelude.{◌≡◌, ◌≤◌, None, true, is_some, OnOk, OnErr, IfOk};
 ghost use Rattle.std.specs.FinMap as map;
-ghost use Rattle.ddc_model.specs.Entries.{after, blob_of, is_fresh, is_root, at_hour, slot_after, with_blob, with_pin, with_slot};
+ghost use Rattle.ddc_model.specs.State.{done_of, pending_of};
+ghost use Rattle.ddc_model.specs.Entries.{after, at_hour, blob_of, count_added, count_deleted, has_numbers, is_fresh, is_hash, is_root, noted_put, slot_after, with_blob, with_pin, with_slot, without_blob};
 ghost use Rattle.ddc_model.specs.Limits.{most_bytes};
-ghost use Rattle.ddc_model.specs.declared.entry.Entry.TheVariants.{Space, Upload, Repin, Put, Finalise, Delete, Touch};
-ghost use Rattle.ddc_state.specs.Views.{in_state, without_blob};
+ghost use Rattle.ddc_model.specs.declared.entry.Entry.TheVariants.{Space, Upload, Repin, Put, Finalise, Delete, Touch, Swept, BaseSlot};
+ghost use Rattle.ddc_state.specs.Views.{in_state};
+ghost use Rattle.ddc_state.specs.inside.Noted.{noted_where};
 
 use super::Index;
 use super::legal::{blob_extent, done_in};
-use ddc_model::{Blob, BlobName, BlobRow, SpaceRow, Stored};
+use ddc_model::{Blob, BlobName, BlobRow, Cursor, SpaceRow, Stored};
 use ddc_names::{IoHash, Namespace, NoMemory, RefName, Rows};
 use ref_store::Slot;
 use std::alloc::Global;
@@ -60,18 +62,19 @@ impl Index {
         whole: bool,
         hour: u32,
     ) -> Result<(), NoMemory>
-        requires { is_root self.old.state name.now.space root.now fresh.now ≡ true }
+        requires root { is_root self.old.state name.now.space root.now fresh.now ≡ true }
+        requires numbers { whole ≡ true → has_numbers self.old.state name.now.space (count_added (done_of (map.get self.old.state.slots name.now)) root.now) ≡ true }
         ensures ok { OnOk result (self.new ≡ in_state self.old (after self.old.state (Put name.now root.now fresh.now whole hour))) }
         ensures err { OnErr result (self.new ≡ self.old) }
     {
         match fresh {
             None => {
-                self.put_slot(name, root, whole, hour)?;
+                self.put_slot(alloc, name, root, whole, hour)?;
                 self.pin_blob(&name.space, root, hour);
             }
             Some(blob) => {
                 self.add_blob(alloc, &name.space, blob, hour)?;
-                if let Err(NoMemory) = self.put_slot(name, root, whole, hour) {
+                if let Err(NoMemory) = self.put_slot(alloc, name, root, whole, hour) {
                     self.remove_blob(&name.space, &blob.hash);
                     return Err(NoMemory);
                 }
@@ -83,28 +86,43 @@ impl Index {
 
     pub(super) fn apply_finalise(
         &mut self,
+        alloc: Global,
         name: &RefName,
         hash: &IoHash,
         hour: u32,
     ) -> Result<(), NoMemory>
+        requires pending { is_hash (pending_of (map.get self.old.state.slots name.now)) hash.now ≡ true }
+        requires numbers { has_numbers self.old.state name.now.space (count_added (done_of (map.get self.old.state.slots name.now)) hash.now) ≡ true }
         ensures ok { OnOk result (self.new ≡ in_state self.old (after self.old.state (Finalise name.now hash.now hour))) }
         ensures err { OnErr result (self.new ≡ self.old) }
     {
+        let old = self.done(name);
+        self.note_added(alloc, name, old, hash)?;
         let slot = Slot {
             done: Some(*hash),
             pending: None,
             seen: hour,
         };
-        self.refs.set(name, slot)?;
+        self.replace_slot(name, slot);
         self.raise(hour);
         Ok(())
     }
 
-    pub(super) fn apply_delete(&mut self, name: &RefName, hour: u32)
-        ensures { self.new ≡ in_state self.old (after self.old.state (Delete name.now hour)) }
+    pub(super) fn apply_delete(
+        &mut self,
+        alloc: Global,
+        name: &RefName,
+        hour: u32,
+    ) -> Result<(), NoMemory>
+        requires { has_numbers self.old.state name.now.space (count_deleted (done_of (map.get self.old.state.slots name.now))) ≡ true }
+        ensures ok { OnOk result (self.new ≡ in_state self.old (after self.old.state (Delete name.now hour))) }
+        ensures err { OnErr result (self.new ≡ self.old) }
     {
-        self.refs.remove(name);
+        let old = self.done(name);
+        self.note_deleted(alloc, name, old)?;
+        self.drop_slot(name);
         self.raise(hour);
+        Ok(())
     }
 
     pub(super) fn apply_touch(&mut self, name: &RefName, hour: u32) -> Result<(), NoMemory>
@@ -118,7 +136,46 @@ impl Index {
         Ok(())
     }
 
-    fn raise(&mut self, hour: u32)
+    pub(super) fn apply_swept(&mut self, space: &Namespace, hashes: &[IoHash])
+        ensures { self.new ≡ in_state self.old (after self.old.state (Swept space.now hashes.now)) }
+    {
+        for hash in hashes {
+            self.remove_blob(space, hash);
+        }
+    }
+
+    pub(super) fn apply_cursor(
+        &mut self,
+        space: &Namespace,
+        cursor: &Cursor,
+    ) -> Result<(), NoMemory>
+        ensures ok { OnOk result (self.new ≡ in_state self.old (record self.old.state { cursors = map.insert self.old.state.cursors space.now cursor.now })) }
+        ensures err { OnErr result (self.new ≡ self.old) }
+    {
+        self.cursors.set_copy(space, cursor)?;
+        Ok(())
+    }
+
+    pub(super) fn apply_base_slot(
+        &mut self,
+        name: &RefName,
+        done: Option<IoHash>,
+        pending: Option<IoHash>,
+        seen: u32,
+    ) -> Result<(), NoMemory>
+        ensures ok { OnOk result (self.new ≡ in_state self.old (after self.old.state (BaseSlot name.now done pending seen))) }
+        ensures err { OnErr result (self.new ≡ self.old) }
+    {
+        let slot = Slot {
+            done,
+            pending,
+            seen,
+        };
+        self.set_slot(name, slot)?;
+        Ok(())
+    }
+
+    pub(super) fn raise(&mut self, hour: u32)
         ensures { self.new ≡ in_state self.old (at_hour self.old.state hour) }
     {
         self.hour = self.hour.max(hour);
@@ -171,19 +228,76 @@ impl Index {
         }
     }
 
+    // Gives a reference its slot after a put, and notes what the put finalises.
     fn put_slot(
         &mut self,
+        alloc: Global,
         name: &RefName,
         root: &IoHash,
         whole: bool,
         hour: u32,
     ) -> Result<(), NoMemory>
-        ensures ok { OnOk result (self.new ≡ in_state self.old (with_slot self.old.state name.now (slot_after (map.get self.old.state.slots name.now) root.now whole hour))) }
+        requires { whole ≡ true → has_numbers self.old.state name.now.space (count_added (done_of (map.get self.old.state.slots name.now)) root.now) ≡ true }
+        ensures ok { OnOk result (self.new ≡ in_state self.old (with_slot (noted_put self.old.state name.now root.now whole) name.now (slot_after (map.get self.old.state.slots name.now) root.now whole hour))) }
         ensures err { OnErr result (self.new ≡ self.old) }
     {
-        let slot = slot_after_put(self.refs.get(name), *root, whole, hour);
+        let Some(before) = self.slot(name) else {
+            let slot = slot_after_put(None, *root, whole, hour);
+            self.put_new_slot(alloc, name, root, whole, slot)?;
+            return Ok(());
+        };
+        let slot = slot_after_put(Some(before), *root, whole, hour);
+        self.note_put(alloc, name, before.done, root, whole)?;
+        self.replace_slot(name, slot);
+        Ok(())
+    }
+
+    // The same for a reference that isn't there. An event can't be taken back, so it is noted last.
+    fn put_new_slot(
+        &mut self,
+        alloc: Global,
+        name: &RefName,
+        root: &IoHash,
+        whole: bool,
+        slot: Slot,
+    ) -> Result<(), NoMemory>
+        requires new { map.get self.old.state.slots name.now ≡ None }
+        requires numbers { whole ≡ true → has_numbers self.old.state name.now.space 1 ≡ true }
+        ensures ok { OnOk result (self.new ≡ in_state self.old (with_slot (noted_where whole self.old.state name.now None root.now) name.now slot)) }
+        ensures err { OnErr result (self.new ≡ self.old) }
+    {
+        self.set_slot(name, slot)?;
+        if let Err(NoMemory) = self.note_put(alloc, name, None, root, whole) {
+            self.drop_slot(name);
+            return Err(NoMemory);
+        }
+        Ok(())
+    }
+
+    // Gives a reference that is there another slot, which takes no memory.
+    fn replace_slot(&mut self, name: &RefName, slot: Slot)
+        requires { is_some (map.get self.old.state.slots name.now) ≡ true }
+        ensures { self.new ≡ in_state self.old (with_slot self.old.state name.now slot) }
+    {
+        match self.set_slot(name, slot) {
+            Ok(()) => {}
+            Err(NoMemory) => unreachable!(),
+        }
+    }
+
+    fn set_slot(&mut self, name: &RefName, slot: Slot) -> Result<(), NoMemory>
+        ensures ok { OnOk result (self.new ≡ in_state self.old (with_slot self.old.state name.now slot)) }
+        ensures err { OnErr result (self.new ≡ self.old) }
+        ensures only_for_a_new_name { OnErr result (map.get self.old.state.slots name.now ≡ None) }
+    {
         self.refs.set(name, slot)?;
         Ok(())
+    }
+
+    pub(super) fn drop_slot(&mut self, name: &RefName)
+        ensures { self.new ≡ in_state self.old (record self.old.state { slots = map.remove self.old.state.slots name.now }) }
+    {
+        self.refs.remove(name);
     }
 }
 

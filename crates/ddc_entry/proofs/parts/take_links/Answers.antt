@@ -1,17 +1,17 @@
 use Rattle.std.proofs.lemmas.Result.{err_from_is_err_and}
-use Rattle.ddc_entry.specs.inside.Reading.{links_at}
-use Rattle.ddc_entry.proofs.Links.{goes_on, ends, all_read}
+use Rattle.ddc_entry.specs.inside.Reading.{link_at, many_at}
+use Rattle.ddc_entry.proofs.Many.{goes_on, ends, all_read}
 use Rattle.ddc_entry.proofs.parts.take_links.Goals as goal
 
 pub returns-in_err-link : goal.returns-in_err-link
 returns-in_err-link c =
     let p = err_from_is_err_and c.from_residual.result c.from_residual.ensures.1 in
-    rw (p.1, p.2) (ends c.in_err-link.field-0.0 c.loop.links.items c.args.count c.loop.counter c.loop.rest.now (links_at c.args.count c.args.bytes.now) c.loop-test.true c.in_err-link.ensures c.loop.invariant)
+    rw (p.1, p.2) (ends c.in_err-link.field-0.0 link_at c.loop.links.items c.args.count c.loop.counter c.loop.rest.now (many_at link_at c.args.count c.args.bytes.now) c.loop-test.true c.in_err-link.ensures c.loop.invariant)
 
 pub loop-preserved : goal.loop-preserved
 loop-preserved c =
     let l = c.in_ok-link.link in
-    rw c.in_ok-push.ensures.items (goes_on c.loop.links.items c.args.count c.loop.counter c.loop.rest.now l c.in_ok-link.behind.now (links_at c.args.count c.args.bytes.now) c.loop-test.true c.in_ok-link.ensures c.loop.invariant)
+    rw c.in_ok-push.ensures.items (goes_on link_at c.loop.links.items c.args.count c.loop.counter c.loop.rest.now l c.in_ok-link.behind.now (many_at link_at c.args.count c.args.bytes.now) c.loop-test.true c.in_ok-link.ensures c.loop.invariant)
 
 pub returns : goal.returns
-returns c = all_read c.loop.links.items c.args.count c.loop.counter c.loop.rest.now (links_at c.args.count c.args.bytes.now) c.loop-test.false c.loop.invariant
+returns c = all_read link_at c.loop.links.items c.args.count c.loop.counter c.loop.rest.now (many_at link_at c.args.count c.args.bytes.now) c.loop-test.false c.loop.invariant

@@ -1,5 +1,4 @@
-use Rattle.std.proofs.Common.{◌≡◌, ◌+◌, ◌≤◌, ◌∙◌, List, ℕ, length, take, drop, sym, ap, subst, arith, inl, inr}
-use Rattle.std.specs.Prelude.{Some}
+use Rattle.std.proofs.Common.{◌≡◌, ◌+◌, ◌≤◌, ◌∙◌, List, ℕ, length, take, drop, ap, subst, arith, inl, inr}
 use Rattle.ddc_disk.specs.Told.{at_told}
 use Rattle.ddc_journal.specs.Journal.{version_in, generation_in}
 use Rattle.ddc_journal.specs.inside.Scanning.{EndsAt, HeadFault, IsOpen, ItemFault}

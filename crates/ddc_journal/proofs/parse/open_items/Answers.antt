@@ -1,4 +1,4 @@
-use Rattle.std.proofs.Common.{rules, ◌≡◌, ◌≢◌, ◌<◌, ◌∙◌, ap, subst, sym, take, ℕ, arith, length, length-drop, refl, inl, inr}
+use Rattle.std.proofs.Common.{rules, ◌≡◌, ◌≢◌, ◌<◌, ◌∙◌, ap, subst, sym, take, ℕ, arith, length, length-drop, refl, inr}
 use Rattle.std.specs.Prelude.{slice_index}
 use Rattle.ddc_journal.specs.Journal.{magic, version_in, generation_in}
 use Rattle.ddc_journal.specs.Faults.{IsKnown}

@@ -1,7 +1,7 @@
-use Rattle.std.proofs.Common.{◌≡◌, ◌<◌, ◌≤◌, ◌∙◌, [], List, ℕ, length, drop, refl, sym, subst, arith, inl, inr}
+use Rattle.std.proofs.Common.{◌≡◌, ◌∙◌, List, ℕ, length, drop, refl, sym, subst, arith, inl, inr}
 use Rattle.std.proofs.lemmas.Bool.{cases_lt}
 use Rattle.ddc_disk.specs.Told.{at_told}
-use Rattle.ddc_journal.specs.inside.Scanning.{IsReadTo, IsShut, ItemFault, NeedsAt, StopsAt}
+use Rattle.ddc_journal.specs.inside.Scanning.{IsReadTo, NeedsAt, StopsAt}
 use Rattle.ddc_journal.specs.declared.parse.Stop.TheVariants.{Closed, Lacks}
 use Rattle.ddc_journal.proofs.Making.{if_told}
 use Rattle.ddc_journal.proofs.Windows.{ends, only_both, only_none, piece_fails, read_none}

@@ -1,6 +1,5 @@
-use Rattle.std.proofs.Common.{◌≡◌, ◌+◌, ◌≤◌, ◌∙◌, List, ℕ, length, take, drop, sym, ap, subst, arith}
+use Rattle.std.proofs.Common.{◌≡◌, ◌+◌, ◌≤◌, ◌∙◌, ℕ, length, take, drop, sym, ap, arith}
 use Rattle.ddc_disk.specs.Told.{at_told}
-use Rattle.ddc_journal.specs.inside.Scanning.{TakesItems}
 use Rattle.ddc_journal.proofs.Making.{if_told}
 use Rattle.ddc_journal.proofs.Windows.{goes, stopped, taken}
 use Rattle.ddc_journal.proofs.window.read_window.Goals as goal

@@ -1,7 +1,8 @@
-use Rattle.std.proofs.Common.{sym, ◌∙◌, subst, [], None, refl}
+use Rattle.std.proofs.Common.{◌≡◌, sym, ◌∙◌, subst, [], None, refl}
 use Rattle.ddc_names.specs.declared.reference.RefName.{RefName}
 use Rattle.ddc_model.specs.declared.entry.Entry.TheVariants.{Delete}
 use Rattle.ddc_model.specs.declared.fault.StoreFault.TheVariants.{UnknownSpace, NotFound}
+use Rattle.ddc_model.specs.History.{no_room, past_of}
 use Rattle.ddc_model.specs.Reads.{DeleteAs}
 use Rattle.ddc_book.specs.Calls.{CommandGives}
 use Rattle.ddc_book.specs.inside.Making.{IsFit}
@@ -35,8 +36,10 @@ returns-in_default-new-clause-goes_on g c = c.in_default.ensures.still.goes []
 
 pub make-requires-clause-fit : goal.make-requires-clause-fit
 make-requires-clause-fit g c =
-    subst (λ (n : RefName). IsFit c.args.self.now.cache (Delete n c.hour_of.result) None) (sym c.in-Ok.ensures)
-    (delete_fit c.args.self.now.cache (c.in_default.ensures.serves (sym c.in_default.ensures.count)).whole c.args.name.now c.args.hour c.hour_of.result
+    let old = c.args.self.now in
+    let past = past_of old.steps in
+    subst (λ (n : RefName). no_room old.cache.index past (Delete n c.hour_of.result) ≡ None → IsFit old.cache (Delete n c.hour_of.result) None) (sym c.in-Ok.ensures)
+    (delete_fit old.cache (c.in_default.ensures.serves (sym c.in_default.ensures.count)).whole past c.args.name.now c.args.hour c.hour_of.result
     (delete_makes c.args.self.now.cache.index c.args.name.now c.args.hour (sym c.has_space.ensures ∙ c.if-not-has_space.false) (λ one. c.if-added_refs-eq1.false (c.added_refs.ensures ∙ one)) c.hour_of.result c.hour_of.ensures))
 
 pub returns-clause-gives : goal.returns-clause-gives

@@ -2,6 +2,7 @@ use Rattle.std.proofs.Common.{◌≡◌, ap, sym, ◌∙◌, subst, [], None, re
 use Rattle.ddc_names.specs.declared.reference.RefName.{RefName}
 use Rattle.ddc_model.specs.declared.entry.Entry.TheVariants.{Finalise}
 use Rattle.ddc_model.specs.Commands.{hour_of, FinaliseAs}
+use Rattle.ddc_model.specs.History.{no_room, past_of}
 use Rattle.ddc_book.specs.View.{BookView}
 use Rattle.ddc_book.specs.Calls.{Stays, CommandGives, GoesOn}
 use Rattle.ddc_book.specs.inside.Making.{IsFit, IsServing}
@@ -37,9 +38,10 @@ make-requires-clause-fit g c =
     let same = c.missing.ensures.same in
     let now : c.hour_of.result ≡ hour_of s c.args.hour = c.hour_of.ensures ∙ ap (λ (b : BookView g.row.D.Denot). hour_of b.cache.index c.args.hour) same in
     let makes = finalise_makes s name c.args.hash c.args.hour c.requires.pending c.in-Ok.missing c.in-Ok.ensures.needs (sym c.len.ensures ∙ c.if-len-eq0.true) c.hour_of.result now in
-    subst (λ (n : RefName). IsFit mid.cache (Finalise n c.args.hash c.hour_of.result) None) (sym c.in-Ok-new.ensures)
-    (subst (λ (b : BookView g.row.D.Denot). IsFit b.cache (Finalise name c.args.hash c.hour_of.result) None) (sym same)
-    (finalise_fit old.cache c.requires.serves.whole name c.args.hash c.args.hour c.hour_of.result c.in-Ok.missing c.requires.pending makes))
+    let Fits : BookView g.row.D.Denot → RefName → Type 0 = λ b n. no_room b.cache.index (past_of b.steps) (Finalise n c.args.hash c.hour_of.result) ≡ None → IsFit b.cache (Finalise n c.args.hash c.hour_of.result) None in
+    subst (λ (n : RefName). Fits mid n) (sym c.in-Ok-new.ensures)
+    (subst (λ (b : BookView g.row.D.Denot). Fits b name) (sym same)
+    (finalise_fit old.cache c.requires.serves.whole (past_of old.steps) name c.args.hash c.args.hour c.hour_of.result c.in-Ok.missing makes))
 
 pub returns-in-Ok-new-clause-gives : goal.returns-in-Ok-new-clause-gives
 returns-in-Ok-new-clause-gives g c =

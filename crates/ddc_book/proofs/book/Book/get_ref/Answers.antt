@@ -63,7 +63,7 @@ commit-requires-clause-fit g c =
     let found = served_object cache serves.whole name hash is (Ok bytes) served in
     let touch = (room_of cache serves.whole name past c.args.hour entry touched).1 in
     subst (λ (k : Cache). IsFit k entry None) (sym stays.cache)
-    (touch_fit cache serves.whole name hash c.args.hour found.0 entry is touch
+    (touch_fit cache serves.whole name hash c.args.hour found.0 entry
     (subst (λ (made : Option Entry). GetAs cache name c.args.hour (Ok (hash, found.0)) made) (sym touch) (gets cache serves.whole name c.args.hour hash is found.0 found.1)))
 
 pub returns-in-None-clause-gives : goal.returns-in-None-clause-gives

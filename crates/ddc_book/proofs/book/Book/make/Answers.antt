@@ -9,5 +9,8 @@ returns-in-Some-clause-gives g c = room_refused c.args.self.now c.args.entry c.a
 pub returns-in-Some-clause-goes_on : goal.returns-in-Some-clause-goes_on
 returns-in-Some-clause-goes_on g c = c.requires.serves.still.goes (bytes_or_none c.args.blob)
 
+pub commit-requires-clause-fit : goal.commit-requires-clause-fit
+commit-requires-clause-fit g c = c.requires.fit (sym c.in_default.ensures.fault)
+
 pub returns-in-Err-clause-gives : goal.returns-in-Err-clause-gives
 returns-in-Err-clause-gives g c = room_failed g.D.Disk.meaning c.args.self.now c.commit.new.self (bytes_or_none c.args.blob) c.args.entry c.args.answer (sym c.in_default.ensures.fault) c.in-Err.fault c.in-Err.ensures.gives

@@ -6,6 +6,7 @@ use Rattle.ddc_model.specs.State.{blob_at}
 use Rattle.ddc_model.specs.Content.{content_hash}
 use Rattle.ddc_model.specs.Counts.{fresh_of}
 use Rattle.ddc_model.specs.Commands.{hour_of, needs_none, PutAs}
+use Rattle.ddc_model.specs.History.{no_room, past_of}
 use Rattle.ddc_book.specs.View.{BookView}
 use Rattle.ddc_book.specs.Calls.{CommandGives, GoesOn}
 use Rattle.ddc_book.specs.inside.Making.{full_by, Brings, StartsLow, IsFit, IsServing}
@@ -62,8 +63,8 @@ make-requires-clause-fit g c =
     c.in-Ok.missing c.hash_of-root.result c.hash_of-root.ensures.hash c.in-Ok.ensures.needs entry is in
     let brings : Brings (fresh_of entry) None = subst (λ (e : Entry). Brings (fresh_of e) None) (sym is) tt in
     let starts : StartsLow (fresh_of entry) = subst (λ (e : Entry). StartsLow (fresh_of e)) (sym is) tt in
-    subst (λ (b : BookView g.row.D.Denot). IsFit b.cache entry None) (sym same)
-    (put_fit old.cache c.requires.serves.whole name object c.args.hour c.hash_of-root.ensures.read c.requires.short c.in-Ok.missing entry None brings starts
+    subst (λ (b : BookView g.row.D.Denot). no_room b.cache.index (past_of b.steps) entry ≡ None → IsFit b.cache entry None) (sym same)
+    (put_fit old.cache c.requires.serves.whole (past_of old.steps) name object c.args.hour c.hash_of-root.ensures.read c.requires.short c.in-Ok.missing entry None brings starts
     (known_alike old.cache object.bytes [] name c.hash_of-root.result _ _ entry is) makes)
 
 pub returns-clause-gives : goal.returns-clause-gives

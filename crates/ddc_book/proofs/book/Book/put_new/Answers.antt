@@ -1,10 +1,11 @@
-use Rattle.std.proofs.Common.{◌≡◌, ap, sym, ◌∙◌, subst, Some, ℕ, List, length}
+use Rattle.std.proofs.Common.{◌≡◌, ap, sym, ◌∙◌, subst, None, Some, ℕ, List, length}
 use Rattle.ddc_model.specs.declared.entry.Entry.{Entry}
 use Rattle.ddc_model.specs.declared.entry.Entry.TheVariants.{Put}
 use Rattle.ddc_model.specs.declared.entry.Stored.{Stored}
 use Rattle.ddc_model.specs.Content.{content_hash}
 use Rattle.ddc_model.specs.Counts.{fresh_of}
 use Rattle.ddc_model.specs.Commands.{changed, hour_of, needs_none, PutAs}
+use Rattle.ddc_model.specs.History.{no_room, past_of}
 use Rattle.ddc_book.specs.View.{BookView}
 use Rattle.ddc_book.specs.Calls.{CommandGives, GoesOn}
 use Rattle.ddc_book.specs.inside.Making.{full_by, Brings, StartsLow, IsFit, IsServing}
@@ -66,8 +67,8 @@ make-requires-clause-fit g c =
     let brings : Brings (fresh_of entry) (Some c.into_whole.result) = subst (λ (e : Entry). Brings (fresh_of e) (Some c.into_whole.result)) (sym is)
     (ap (λ (blob : Stored). blob.len) c.in-Ok.ensures.stored ∙ ap (λ (l : List ℕ). length l) (sym c.into_whole.ensures)) in
     let starts : StartsLow (fresh_of entry) = subst (λ (e : Entry). StartsLow (fresh_of e)) (sym is) (starts_low s object c.in-Ok.fresh c.in-Ok.ensures.stored) in
-    subst (λ (b : BookView g.row.D.Denot). IsFit b.cache entry (Some c.into_whole.result)) (sym same)
-    (put_fit old.cache c.requires.serves.whole name object c.args.hour c.hash_of-root.ensures.read c.requires.short c.in-Ok-missing_with.missing entry (Some c.into_whole.result) brings starts
+    subst (λ (b : BookView g.row.D.Denot). no_room b.cache.index (past_of b.steps) entry ≡ None → IsFit b.cache entry (Some c.into_whole.result)) (sym same)
+    (put_fit old.cache c.requires.serves.whole (past_of old.steps) name object c.args.hour c.hash_of-root.ensures.read c.requires.short c.in-Ok-missing_with.missing entry (Some c.into_whole.result) brings starts
     (ap (λ (l : List ℕ). changed old.cache l (Some entry)) (sym c.into_whole.ensures)) makes)
 
 pub returns-clause-gives : goal.returns-clause-gives

@@ -19,7 +19,7 @@ returns-in-Some-full-clause-goes_on g c = c.in_default.ensures.still.goes []
 pub make-requires-clause-fit : goal.make-requires-clause-fit
 make-requires-clause-fit g c =
     let s = c.args.self.now.cache.index in
-    space_fit c.args.self.now.cache (c.in_default.ensures.serves (sym c.in_default.ensures.count)).whole c.args.space c.args.ttl c.args.pin c.requires.ttl c.requires.pin
+    λ room. space_fit c.args.self.now.cache (c.in_default.ensures.serves (sym c.in_default.ensures.count)).whole c.args.space c.args.ttl c.args.pin c.requires.ttl c.requires.pin
     (made_where s (Space c.args.space c.args.ttl c.args.pin) (ap (λ (n : ℕ). full_by s n None 0) (sym c.added_spaces.ensures) ∙ sym c.in_default-full.ensures.fault))
 
 pub returns-clause-gives : goal.returns-clause-gives

@@ -11,7 +11,7 @@ make-requires-clause-fit g c =
     let s = c.args.self.now.cache.index in
     let entry = Repin c.args.space.now c.hash_of.result c.hour_of-hour.result in
     let makes = upload_repins s c.args.space.now c.args.blob.now c.args.hour c.requires.known c.args.at c.requires.there c.hash_of.result c.hour_of-hour.result c.hash_of.ensures.hash c.hour_of-hour.ensures c.if-at-hour.true in
-    upload_fit c.args.self.now.cache c.requires.serves.whole c.args.space.now c.args.blob.now c.args.hour c.hash_of.ensures.read c.requires.short entry None tt tt refl makes
+    λ room. upload_fit c.args.self.now.cache c.requires.serves.whole c.args.space.now c.args.blob.now c.args.hour c.hash_of.ensures.read c.requires.short entry None tt tt refl makes
 
 pub returns-then-at-hour-clause-gives : goal.returns-then-at-hour-clause-gives
 returns-then-at-hour-clause-gives g c =

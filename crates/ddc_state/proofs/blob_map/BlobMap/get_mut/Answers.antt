@@ -1,7 +1,8 @@
 use Rattle.std.proofs.Common.{ap, ◌∙◌, inr}
 use Rattle.std.specs.FinMap as map
 use Rattle.ddc_state.specs.Nested.{in_spaces}
-use Rattle.ddc_state.proofs.Nesting.{read_in, read_none, kept_in, written, len_written, ends_alike}
+use Rattle.ddc_state.proofs.Lending.{ends_alike}
+use Rattle.ddc_state.proofs.Nesting.{read_in, read_none, kept_in, written, len_written}
 use Rattle.ddc_state.proofs.blob_map.BlobMap.get_mut.Goals as goal
 
 pub invariant_of-self-lent : goal.invariant_of-self-lent

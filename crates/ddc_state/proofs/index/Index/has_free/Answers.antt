@@ -8,4 +8,4 @@ use Rattle.ddc_state.proofs.index.Index.has_free.Goals as goal
 pub returns : goal.returns
 returns c =
     subst (λ (index : IndexView). c.is_free.result ≡ is_free index.state c.args.extent) c.self.view_is
-    (tests_agree c.self.inside.area (the_view c.self.inside).state c.self.invariant c.args.extent c.is_free.result c.is_free.ensures.free)
+    (tests_agree c.self.inside.area (the_view c.self.inside).state c.self.invariant.claimed c.args.extent c.is_free.result c.is_free.ensures.free)

@@ -9,5 +9,6 @@ use Rattle.ddc_state.proofs.index.Index.new.Goals as goal
 
 pub invariant_of-result : goal.invariant_of-result
 invariant_of-result c =
-    subst (λ (blobs : FinMap blob_cmp Blob). AreClaims c.new-3.result c.args.limits.units blobs) (sym c.new-2.ensures)
-    (subst (λ (claims : Claims). AreClaims claims c.args.limits.units empty) (sym c.new-3.ensures) (nothing_claimed c.args.limits.units c.requires.units))
+    let claims = subst (λ (blobs : FinMap blob_cmp Blob). AreClaims c.new-3.result c.args.limits.units blobs) (sym c.new-2.ensures)
+    (subst (λ (claims : Claims). AreClaims claims c.args.limits.units empty) (sym c.new-3.ensures) (nothing_claimed c.args.limits.units c.requires.units)) in
+    record { kept = c.requires.kept; claimed = claims }

@@ -11,5 +11,6 @@ pub invariant_of-self : goal.invariant_of-self
 invariant_of-self c =
     let name = blob_name c.args.space.now c.args.hash.now in
     let blobs = c.self.inside.blobs in
-    subst (λ (m : FinMap blob_cmp Blob). AreClaims c.self.inside.area c.self.inside.limits.units m) (sym c.pin.ensures)
-    (pinned_claims c.self.inside.area c.self.inside.limits.units blobs c.self.invariant name c.args.hour (get blobs name) refl)
+    let claims = subst (λ (m : FinMap blob_cmp Blob). AreClaims c.self.inside.area c.self.inside.limits.units m) (sym c.pin.ensures)
+    (pinned_claims c.self.inside.area c.self.inside.limits.units blobs c.self.invariant.claimed name c.args.hour (get blobs name) refl) in
+    record { kept = c.self.invariant.kept; claimed = claims }
