@@ -7,7 +7,7 @@
 ghost use Rattle.std.specs.Prelude.{◌≡◌, ◌≤◌, true};
 ghost use Rattle.ddc_model.specs.Counts.{added_links, fresh_of};
 ghost use Rattle.ddc_model.specs.Limits.{most_links};
-ghost use Rattle.ddc_entry.specs.Spelling.{IsCounted};
+ghost use Rattle.ddc_entry.specs.Spelling.{RemovalCountFits};
 
 use cb_fields::{Link, LinkKind};
 use ddc_entry::{read_entry, write_entry};
@@ -48,7 +48,7 @@ fn touched(alloc: Global) -> Result<Option<Entry>, NoMemory> {
 // How many bytes were written.
 fn write_all(alloc: Global, entry: &Entry, times: u64) -> Result<u64, NoMemory>
     requires few_links { added_links (fresh_of entry.now) ≤ most_links }
-    requires is_counted { IsCounted entry.now }
+    requires count_fits { RemovalCountFits entry.now }
 {
     let mut total = 0u64;
     for _ in 0..times {
@@ -80,8 +80,8 @@ fn upload_of(links: Rows<Link>) -> Option<Entry> {
     };
     Some(Entry::Upload {
         space,
-        blob,
         hour: 494_933,
+        blob,
     })
 }
 
@@ -96,7 +96,7 @@ fn entry_of(alloc: Global, count: u64) -> Result<Option<Entry>, NoMemory> {
 // Whether an entry may be written.
 fn may_be_written(entry: &Entry) -> bool
     ensures few_links { result ≡ true → added_links (fresh_of entry.now) ≤ most_links }
-    ensures is_counted { result ≡ true → IsCounted entry.now }
+    ensures count_fits { result ≡ true → RemovalCountFits entry.now }
 {
     match entry {
         Entry::Upload { blob, .. } => blob.links.len() <= MOST_LINKS,

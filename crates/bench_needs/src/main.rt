@@ -71,8 +71,8 @@ fn store(
     };
     let entry = Entry::Upload {
         space: *space,
-        blob,
         hour: 1,
+        blob,
     };
     apply(alloc, index, &entry)
 }

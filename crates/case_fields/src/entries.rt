@@ -3,7 +3,7 @@
 ghost use Rattle.std.specs.Prelude.{◌≡◌, ◌≤◌, true};
 ghost use Rattle.ddc_model.specs.Counts.{added_links, fresh_of};
 ghost use Rattle.ddc_model.specs.Limits.{most_links};
-ghost use Rattle.ddc_entry.specs.Spelling.{IsCounted};
+ghost use Rattle.ddc_entry.specs.Spelling.{RemovalCountFits};
 
 use crate::objects::{bytes_of, push_hex, push_link};
 use ddc_entry::{read_entry, write_entry};
@@ -39,7 +39,7 @@ fn is_written_as(alloc: Global, entry: &Entry, bytes: &[u8]) -> Result<bool, NoM
 // Whether an entry may be written.
 fn may_be_written(entry: &Entry) -> bool
     ensures few_links { result ≡ true → added_links (fresh_of entry.now) ≤ most_links }
-    ensures is_counted { result ≡ true → IsCounted entry.now }
+    ensures count_fits { result ≡ true → RemovalCountFits entry.now }
 {
     match entry {
         Entry::Upload { blob, .. } => blob.links.len() <= MOST_LINKS,
@@ -57,7 +57,7 @@ fn may_be_written(entry: &Entry) -> bool
 fn entry_text(alloc: Global, entry: &Entry) -> Result<String, NoMemory> {
     match entry {
         Entry::Space { space, ttl, pin } => space_text(alloc, "space", space, &[*ttl, *pin]),
-        Entry::Upload { space, blob, hour } => {
+        Entry::Upload { space, hour, blob } => {
             with_blob(alloc, space_text(alloc, "upload", space, &[*hour])?, blob)
         }
         Entry::Repin { space, hash, hour } => {

@@ -4,7 +4,7 @@ use Rattle.std.proofs.Common.{ap, sym, ◌∙◌, subst}
 use Rattle.std.specs.Option.{unwrap_or}
 use Rattle.ddc_names.specs.declared.hash.IoHash.{IoHash}
 use Rattle.ddc_names.specs.declared.reference.RefName.{RefName}
-use Rattle.ddc_entry.specs.Spelling.{IsCounted}
+use Rattle.ddc_entry.specs.Spelling.{RemovalCountFits}
 use Rattle.ddc_model.specs.declared.entry.Stored.{Stored}
 use Rattle.ddc_model.specs.declared.entry.Entry.{Entry}
 use Rattle.ddc_model.specs.declared.entry.Entry.TheVariants.{Space, Finalise, Delete}
@@ -31,15 +31,15 @@ starts_low s content fresh is none =
     ap (λ (f : Stored). f.start) is ∙ ap (λ (n : ℕ). unwrap_or (free_run s (units_of n)) 0) empty
 
 -- the entry that is made, where there is one, names as many references or blobs as it may
-abbrev CountedIf : Option Entry → Type 0
-CountedIf (Some entry) = IsCounted entry
-CountedIf None = ⊤
+abbrev CountFitsIf : Option Entry → Type 0
+CountFitsIf (Some entry) = RemovalCountFits entry
+CountFitsIf None = ⊤
 
 module _ (cache : Cache) (whole : AreWhole cache.index) where
   pub space_fit : (space : List ℕ) (ttl pin : ℕ) → is_time ttl ≡ true → is_time pin ≡ true → SpaceAs cache.index space ttl pin (Ok tt) (Some (Space space ttl pin)) → IsFit cache (Space space ttl pin) None
   space_fit space ttl pin is_ttl is_pin gives =
       let keeps = space_whole cache.index space ttl pin (Ok tt) (Some (Space space ttl pin)) whole gives in
-      record { legal = λ i. is_ttl i && is_pin i; counted = tt; lawful = keeps.0; whole = keeps.1; brings = tt; starts = tt; sound = λ sound. space_sound cache space ttl pin (Ok tt) (Some (Space space ttl pin)) sound gives }
+      record { legal = λ i. is_ttl i && is_pin i; count_fits = tt; lawful = keeps.0; whole = keeps.1; brings = tt; starts = tt; sound = λ sound. space_sound cache space ttl pin (Ok tt) (Some (Space space ttl pin)) sound gives }
 
   pub upload_fit : (space : List ℕ) (content : Content) (hour : ℕ) → IsContent content → length content.bytes ≤ most_bytes → (entry : Entry) (blob : Option (List ℕ)) → Brings (fresh_of entry) blob → StartsLow (fresh_of entry)
       → changed cache content.bytes (Some entry) ≡ changed cache (bytes_or_none blob) (Some entry) → UploadAs cache.index space content hour (Ok tt) (Some entry) → IsFit cache entry blob
@@ -47,7 +47,7 @@ module _ (cache : Cache) (whole : AreWhole cache.index) where
       let keeps = upload_whole cache.index space content hour (Ok tt) (Some entry) whole gives in
       record {
         legal = upload_legal cache.index space content hour (Ok tt) (Some entry) read short gives;
-        counted = made_by_upload CountedIf tt cache.index space content hour (λ known room none. tt) (λ known found there. tt) (Ok tt) (Some entry) gives;
+        count_fits = made_by_upload CountFitsIf tt cache.index space content hour (λ known room none. tt) (λ known found there. tt) (Ok tt) (Some entry) gives;
         lawful = keeps.0;
         whole = keeps.1;
         brings = brings;
@@ -61,7 +61,7 @@ module _ (cache : Cache) (whole : AreWhole cache.index) where
       let keeps = put_whole cache.index name content hour (Ok needs) (Some entry) whole gives in
       record {
         legal = put_legal cache.index past name content hour (Ok needs) (Some entry) read short gives room;
-        counted = made_by_put CountedIf tt cache.index name content hour (λ known fits missing are. tt) (Ok needs) (Some entry) gives;
+        count_fits = made_by_put CountFitsIf tt cache.index name content hour (λ known fits missing are. tt) (Ok needs) (Some entry) gives;
         lawful = keeps.0;
         whole = keeps.1;
         brings = brings;
@@ -74,7 +74,7 @@ module _ (cache : Cache) (whole : AreWhole cache.index) where
       let keeps = finalise_whole cache.index name hash hour (Ok needs) (Some (Finalise name hash now)) whole gives in
       record {
         legal = finalise_legal cache.index past name hash hour (Ok needs) (Some (Finalise name hash now)) gives room;
-        counted = tt;
+        count_fits = tt;
         lawful = keeps.0;
         whole = keeps.1;
         brings = tt;
@@ -87,7 +87,7 @@ module _ (cache : Cache) (whole : AreWhole cache.index) where
       let keeps = delete_whole cache.index name hour (Ok tt) (Some (Delete name now)) whole gives in
       record {
         legal = delete_legal cache.index past name hour (Ok tt) (Some (Delete name now)) gives room;
-        counted = tt;
+        count_fits = tt;
         lawful = keeps.0;
         whole = keeps.1;
         brings = tt;
@@ -99,7 +99,7 @@ module _ (cache : Cache) (whole : AreWhole cache.index) where
 
   -- the entry of a touch adds no blob
   abbrev AddsNone : Option Entry → Type 0
-  AddsNone (Some entry) = IsCounted entry × Brings (fresh_of entry) None × StartsLow (fresh_of entry)
+  AddsNone (Some entry) = RemovalCountFits entry × Brings (fresh_of entry) None × StartsLow (fresh_of entry)
   AddsNone None = ⊤
 
   pub touch_fit : (name : RefName) (hash : IoHash) (hour : ℕ) (bytes : List ℕ) (entry : Entry) → GetAs cache name hour (Ok (hash, bytes)) (Some entry) → IsFit cache entry None
@@ -108,7 +108,7 @@ module _ (cache : Cache) (whole : AreWhole cache.index) where
       let adds = made_by_get AddsNone tt cache name hour (λ found known. (tt, tt, tt)) (Ok (hash, bytes)) (Some entry) gives in
       record {
         legal = get_legal cache name hour (Ok (hash, bytes)) (Some entry) gives;
-        counted = adds.0;
+        count_fits = adds.0;
         lawful = keeps.0;
         whole = keeps.1;
         brings = adds.1;

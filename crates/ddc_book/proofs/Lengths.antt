@@ -70,7 +70,7 @@ cursor_short cursor is = omega (arith, from_short cursor.from is.2, length-appen
 
 pub spelling_short : (entry : Entry) → IsEntry entry → added_links (fresh_of entry) ≤ most_links → length (spelling entry) ≤ 88081000
 spelling_short (Space space ttl pin) is few = omega (arith, name_short space is.0, length-append (name space ++ four_bytes ttl) (four_bytes pin), length-append (name space) (four_bytes ttl))
-spelling_short (Upload space blob hour) is few = omega (arith, few, name_short space is.0, stored_short blob is.1, length-append (name space ++ stored_bytes blob) (four_bytes hour), length-append (name space) (stored_bytes blob))
+spelling_short (Upload space hour blob) is few = omega (arith, few, name_short space is.0, stored_short blob is.1, length-append (name space ++ stored_bytes blob) (four_bytes hour), length-append (name space) (stored_bytes blob))
 spelling_short (Repin space hash hour) is few = omega (arith, name_short space is.0, is.1.count, length-append (name space ++ hash.0) (four_bytes hour), length-append (name space) hash.0)
 spelling_short (Put whole_name root fresh whole hour) is few =
     omega (arith, few, ref_name_short whole_name is.0, is.1.count, fresh_short fresh is.2, length-append (ref_name whole_name ++ root.0 ++ optional stored_bytes fresh) (flag whole ∷ four_bytes hour), length-append (ref_name whole_name ++ root.0) (optional stored_bytes fresh), length-append (ref_name whole_name) root.0)

@@ -28,7 +28,7 @@ Within s t = t.limits ≡ s.limits
 
 pub after_limits : (s : State) (entry : Entry) → (after s entry).limits ≡ s.limits
 after_limits s (Space space ttl pin) = refl
-after_limits s (Upload space blob hour) = refl
+after_limits s (Upload space hour blob) = refl
 after_limits s (Repin space hash hour) = refl
 after_limits s (Put name root fresh whole hour) = put_any (Within s) (with_put_root s name.space root fresh hour) (λ logs. root_limits s name.space root fresh hour) name root whole
 after_limits s (Finalise name hash hour) = added_any (Within s) s (λ logs. refl) name (done_of (get s.slots name)) hash

@@ -28,18 +28,18 @@ module _ (s : State) (space : List ℕ) (content : Content) (hour : ℕ) where
   uploads known found is answer made gives = subst (λ (e : Result (Option Entry) StoreFault). EntryWhere e answer made) (sym (λ i. if known i then with_room s (upload_where s (is i) space content (hour_of s hour)) else Err UnknownSpace)) gives
 
   pub upload_adds : has_space s space ≡ true → blob_at s space (content_hash content.bytes) ≡ None → (fresh : Stored) (now : ℕ) → fresh ≡ stored_content s content → now ≡ hour_of s hour → full_by s 0 (Some fresh) 0 ≡ None
-      → UploadAs s space content hour (Ok tt) (Some (Upload space fresh now))
+      → UploadAs s space content hour (Ok tt) (Some (Upload space now fresh))
   upload_adds known absent fresh now is later room =
-      uploads known None absent (Ok tt) (Some (Upload space fresh now))
-      (subst (λ (blob : Stored). EntryWhere (with_room s (Some (Upload space (stored_content s content) (hour_of s hour)))) (Ok tt) (Some (Upload space blob now))) (sym is)
-      (subst (λ (n : ℕ). EntryWhere (with_room s (Some (Upload space (stored_content s content) (hour_of s hour)))) (Ok tt) (Some (Upload space (stored_content s content) n))) (sym later)
-      (made_where s (Upload space (stored_content s content) (hour_of s hour)) (ap (λ (blob : Stored). full_by s 0 (Some blob) 0) (sym is) ∙ room))))
+      uploads known None absent (Ok tt) (Some (Upload space now fresh))
+      (subst (λ (blob : Stored). EntryWhere (with_room s (Some (Upload space (hour_of s hour) (stored_content s content)))) (Ok tt) (Some (Upload space now blob))) (sym is)
+      (subst (λ (n : ℕ). EntryWhere (with_room s (Some (Upload space (hour_of s hour) (stored_content s content)))) (Ok tt) (Some (Upload space n (stored_content s content)))) (sym later)
+      (made_where s (Upload space (hour_of s hour) (stored_content s content)) (ap (λ (blob : Stored). full_by s 0 (Some blob) 0) (sym is) ∙ room))))
 
   pub upload_is_full : has_space s space ≡ true → blob_at s space (content_hash content.bytes) ≡ None → (fresh : Stored) → fresh ≡ stored_content s content → (fault : StoreFault) → full_by s 0 (Some fresh) 0 ≡ Some fault
       → UploadAs s space content hour (Err fault) None
   upload_is_full known absent fresh is fault room =
       uploads known None absent (Err fault) None
-      (refused_where s (Upload space (stored_content s content) (hour_of s hour)) fault (ap (λ (blob : Stored). full_by s 0 (Some blob) 0) (sym is) ∙ room))
+      (refused_where s (Upload space (hour_of s hour) (stored_content s content)) fault (ap (λ (blob : Stored). full_by s 0 (Some blob) 0) (sym is) ∙ room))
 
   abbrev AtFound : Option Blob → ℕ → Type 0
   AtFound found at = option_map (λ (blob : Blob). blob.row.at) found ≡ Some at

@@ -103,7 +103,7 @@ fresh_free s space fresh is =
 
 pub legal_free : (s : State) (entry : Entry) → legal s entry ≡ true → (fresh : Stored) → fresh_of entry ≡ Some fresh → IsFreeIn s fresh
 legal_free s (Space space ttl pin) is fresh e = absurd (cc)
-legal_free s (Upload space blob hour) is fresh e = subst (λ (f : Stored). IsFreeIn s f) (same_some blob fresh e) (fresh_free s space blob (and_parts (has_space s space) (is_fresh s space blob) is).1)
+legal_free s (Upload space hour blob) is fresh e = subst (λ (f : Stored). IsFreeIn s f) (same_some blob fresh e) (fresh_free s space blob (and_parts (has_space s space) (is_fresh s space blob) is).1)
 legal_free s (Repin space hash hour) is fresh e = absurd (cc)
 legal_free s (Put name root None whole hour) is fresh e = absurd (cc)
 legal_free s (Put name root (Some blob) whole hour) is fresh e =
@@ -227,7 +227,7 @@ module _ (s : State) (entry : Entry) (blob : Option (List ℕ)) (placed : IsPlac
       where
         adds : (made : Entry) → ((stored : Stored) → fresh_of made ≡ Some stored → first_byte (extent_of stored) + stored.len ≤ length written) → Adds Reach reach_lasts made bytes
         adds (Space space ttl pin) known = tt
-        adds (Upload space stored hour) known = known stored refl
+        adds (Upload space hour stored) known = known stored refl
         adds (Repin space hash hour) known = tt
         adds (Put name root None whole hour) known = tt
         adds (Put name root (Some stored) whole hour) known = known stored refl

@@ -252,8 +252,8 @@ impl<D: Disk> Book<D> {
         }
         let entry = Entry::Upload {
             space: *space,
-            blob: fresh,
             hour: self.hour_of(hour),
+            blob: fresh,
         };
         self.make(alloc, entry, Some(blob.into_whole()), ())
     }

@@ -4,7 +4,7 @@ ghost use Rattle.std.specs.Prelude.{◌≡◌, ◌++◌, ◌∷◌, [], ◌≤�
 ghost use Rattle.ddc_names.specs.Causes.{HasCause, Rose};
 ghost use Rattle.ddc_disk.specs.Disk.{EachSince, IsSure};
 ghost use Rattle.ddc_disk.specs.Images.{devices_faults, devices_line};
-ghost use Rattle.ddc_entry.specs.Spelling.{spelling, IsCounted, IsEntry};
+ghost use Rattle.ddc_entry.specs.Spelling.{spelling, IsEntry, RemovalCountFits};
 ghost use Rattle.ddc_journal.specs.Pairs.{IsPairReady};
 ghost use Rattle.blob_store.specs.Bytes.{ChangesOnly, LieIn};
 ghost use Rattle.ddc_model.specs.Limits.{most_bytes, most_links};
@@ -30,7 +30,7 @@ use std::alloc::Global;
 // The entry as it is written.
 fn written(alloc: Global, entry: &Entry) -> Result<Framed, NoMemory>
     requires few_links { added_links (fresh_of entry.now) ≤ most_links }
-    requires counted { IsCounted entry.now }
+    requires count_fits { RemovalCountFits entry.now }
     ensures body { IfOk result (λ item. item ≡ spelling entry.now) }
     ensures spellable { OnOk result (IsEntry entry.now) }
 {

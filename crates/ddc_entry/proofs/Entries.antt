@@ -101,7 +101,7 @@ space_takes = made_takes 0x01 (both name_at (both four_at four_at)) (λ x. name 
 
 upload_takes : TakesBehind 0x02 upload_at spelling IsEntry
 unfolding upload_at
-upload_takes = made_takes 0x02 (both name_at (both stored_at four_at)) (λ x. name x.0 ++ (stored_bytes x.1.0 ++ four_bytes x.1.1)) (λ x. IsName x.0 × (IsStored x.1.0 × IsFour x.1.1)) (λ (p : List ℕ × (Stored × ℕ)). Upload p.0 p.1.0 p.1.1) spelling IsEntry
+upload_takes = made_takes 0x02 (both name_at (both stored_at four_at)) (λ x. name x.0 ++ (stored_bytes x.1.0 ++ four_bytes x.1.1)) (λ x. IsName x.0 × (IsStored x.1.0 × IsFour x.1.1)) (λ (p : List ℕ × (Stored × ℕ)). Upload p.0 p.1.1 p.1.0) spelling IsEntry
     (λ x. ap (λ (t : List ℕ). 0x02 ∷ t) (three_parts (name x.0) (stored_bytes x.1.0) (four_bytes x.1.1))) (λ x h. (h.0, h.1.0, h.1.1)) blob_fields
 
 repin_takes : TakesBehind 0x03 repin_at spelling IsEntry
@@ -220,8 +220,8 @@ pub entry_again : Again entry_at spelling IsEntry
 unfolding entry_at space_at upload_at repin_at put_at finalise_at delete_at touch_at expire_at swept_at cursor_at base_hour_at base_slot_at base_event_at
 entry_again (Space space ttl pin) rest fit =
     ap (λ (t : List ℕ). space_at (t ++ rest)) (three_parts (name space) (four_bytes ttl) (four_bytes pin)) ∙ made_again (both name_at (both four_at four_at)) (λ x. name x.0 ++ (four_bytes x.1.0 ++ four_bytes x.1.1)) (λ x. IsName x.0 × (IsFour x.1.0 × IsFour x.1.1)) (λ (p : List ℕ × (ℕ × ℕ)). Space p.0 p.1.0 p.1.1) times (space, (ttl, pin)) rest (fit.0, (fit.1, fit.2))
-entry_again (Upload space blob hour) rest fit =
-    ap (λ (t : List ℕ). upload_at (t ++ rest)) (three_parts (name space) (stored_bytes blob) (four_bytes hour)) ∙ made_again (both name_at (both stored_at four_at)) (λ x. name x.0 ++ (stored_bytes x.1.0 ++ four_bytes x.1.1)) (λ x. IsName x.0 × (IsStored x.1.0 × IsFour x.1.1)) (λ (p : List ℕ × (Stored × ℕ)). Upload p.0 p.1.0 p.1.1) blob_fields (space, (blob, hour)) rest (fit.0, (fit.1, fit.2))
+entry_again (Upload space hour blob) rest fit =
+    ap (λ (t : List ℕ). upload_at (t ++ rest)) (three_parts (name space) (stored_bytes blob) (four_bytes hour)) ∙ made_again (both name_at (both stored_at four_at)) (λ x. name x.0 ++ (stored_bytes x.1.0 ++ four_bytes x.1.1)) (λ x. IsName x.0 × (IsStored x.1.0 × IsFour x.1.1)) (λ (p : List ℕ × (Stored × ℕ)). Upload p.0 p.1.1 p.1.0) blob_fields (space, (blob, hour)) rest (fit.0, (fit.1, fit.2))
 entry_again (Repin space hash hour) rest fit =
     ap (λ (t : List ℕ). repin_at (t ++ rest)) (three_parts (name space) hash.0 (four_bytes hour)) ∙ made_again (both name_at (both hash_at four_at)) (λ x. name x.0 ++ (x.1.0.0 ++ four_bytes x.1.1)) (λ x. IsName x.0 × (IsHash x.1.0 × IsFour x.1.1)) (λ (p : List ℕ × (IoHash × ℕ)). Repin p.0 p.1.0 p.1.1) pin_fields (space, (hash, hour)) rest (fit.0, (fit.1, fit.2))
 entry_again (Put whole_name root fresh whole hour) rest fit =

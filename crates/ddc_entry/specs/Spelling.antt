@@ -79,10 +79,10 @@ op_bytes Deleted = 1 ∷ []
 
 -- ---- the whole
 
--- a tag and the entry's fields in order
+-- a tag and the entry's fields in a fixed order
 abbrev pub spelling : Entry → List ℕ
 spelling (Space space ttl pin) = 0x01 ∷ name space ++ four_bytes ttl ++ four_bytes pin
-spelling (Upload space blob hour) = 0x02 ∷ name space ++ stored_bytes blob ++ four_bytes hour
+spelling (Upload space hour blob) = 0x02 ∷ name space ++ stored_bytes blob ++ four_bytes hour
 spelling (Repin space hash hour) = 0x03 ∷ name space ++ hash.0 ++ four_bytes hour
 spelling (Put whole_name root fresh whole hour) = 0x04 ∷ ref_name whole_name ++ root.0 ++ optional stored_bytes fresh ++ flag whole ∷ four_bytes hour
 spelling (Finalise whole_name hash hour) = 0x05 ∷ ref_name whole_name ++ hash.0 ++ four_bytes hour
@@ -142,7 +142,7 @@ IsOp Deleted = Unit {0}
 
 abbrev pub IsEntry : Entry → Type 0
 IsEntry (Space space ttl pin) = IsName space × IsFour ttl × IsFour pin
-IsEntry (Upload space blob hour) = IsName space × IsStored blob × IsFour hour
+IsEntry (Upload space hour blob) = IsName space × IsStored blob × IsFour hour
 IsEntry (Repin space hash hour) = IsName space × IsHash hash × IsFour hour
 IsEntry (Put whole_name root fresh whole hour) = IsRefName whole_name × IsHash root × IfSome fresh IsStored × IsFour hour
 IsEntry (Finalise whole_name hash hour) = IsRefName whole_name × IsHash hash × IsFour hour
@@ -156,7 +156,7 @@ IsEntry (BaseSlot whole_name done pending seen) = IsRefName whole_name × IfSome
 IsEntry (BaseEvent whole_name number op) = IsRefName whole_name × IsEight number × IsOp op
 
 -- an entry that takes away several references or blobs names as many as it may
-abbrev pub IsCounted : Entry → Type 0
-IsCounted (Expire space spots hour) = IsCount (length spots)
-IsCounted (Swept space hashes) = IsCount (length hashes)
-IsCounted entry = Unit {0}
+abbrev pub RemovalCountFits : Entry → Type 0
+RemovalCountFits (Expire space spots hour) = IsCount (length spots)
+RemovalCountFits (Swept space hashes) = IsCount (length hashes)
+RemovalCountFits entry = Unit {0}

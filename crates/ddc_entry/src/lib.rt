@@ -1,6 +1,6 @@
 //! The entries of a store's history as bytes.
 //!
-//! An entry is a tag byte and its fields in order, and numbers are little-endian. Each entry has one
+//! An entry is a tag byte and its fields in a fixed order, and numbers are little-endian. Each entry has one
 //! spelling, and no two entries have the same.
 #![tactic(auto)]
 

@@ -35,7 +35,7 @@ fn upload_of(alloc: Global, bytes: &[u8]) -> Result<(Entry, &[u8]), Unread>
     };
     let (blob, rest) = take_stored(alloc, rest)?;
     let (hour, rest) = take_four(rest)?;
-    Ok((Entry::Upload { space, blob, hour }, rest))
+    Ok((Entry::Upload { space, hour, blob }, rest))
 }
 
 #[tactic(auto, unfolding(crate::specs::inside::Reading::repin_at))]

@@ -5,7 +5,7 @@ ghost use Rattle.std.specs.List.{AllByRecursion, flat_map};
 ghost use Rattle.ddc_model.specs.Counts.{added_links, fresh_of};
 ghost use Rattle.ddc_model.specs.Limits.{most_links};
 ghost use Rattle.ddc_model.specs.declared.entry.Entry.TheVariants.{Space, Upload, Repin, Put, Finalise, Delete, Touch, Expire, Swept, BaseHour, BaseSlot, BaseEvent};
-ghost use Rattle.ddc_entry.specs.Spelling.{cursor_bytes, eight_bytes, flag, four_bytes, kind_byte, link_bytes, name, op_bytes, optional, ref_name, spelling, spot, stored_bytes, twenty_bytes, AreTwenty, IsCount, IsCounted, IsCursor, IsEntry, IsHash, IsLink, IsName, IsOp, IsRefName, IsSpot, IsStored};
+ghost use Rattle.ddc_entry.specs.Spelling.{cursor_bytes, eight_bytes, flag, four_bytes, kind_byte, link_bytes, name, op_bytes, optional, ref_name, spelling, spot, stored_bytes, twenty_bytes, AreTwenty, IsCount, IsCursor, IsEntry, IsHash, IsLink, IsName, IsOp, IsRefName, IsSpot, IsStored, RemovalCountFits};
 
 use cb_fields::{Link, LinkKind};
 use ddc_model::{Cursor, Entry, Stored};
@@ -252,8 +252,8 @@ fn push_upload(
     hour: u32,
 ) -> Result<(), AllocError>
     requires { length blob.now.links ≤ most_links }
-    ensures bytes { OnOk result (out.new.items ≡ out.old.items ++ spelling (Upload space.now blob.now hour)) }
-    ensures fits { OnOk result (IsEntry (Upload space.now blob.now hour)) }
+    ensures bytes { OnOk result (out.new.items ≡ out.old.items ++ spelling (Upload space.now hour blob.now)) }
+    ensures fits { OnOk result (IsEntry (Upload space.now hour blob.now)) }
 {
     out.push(0x02)?;
     push_space(out, space)?;
@@ -422,13 +422,13 @@ fn push_base_event(
 
 fn push_entry(out: &mut Vec<u8>, entry: &Entry) -> Result<(), AllocError>
     requires few_links { added_links (fresh_of entry.now) ≤ most_links }
-    requires is_counted { IsCounted entry.now }
+    requires count_fits { RemovalCountFits entry.now }
     ensures bytes { OnOk result (out.new.items ≡ out.old.items ++ spelling entry.now) }
     ensures fits { OnOk result (IsEntry entry.now) }
 {
     match entry {
         Entry::Space { space, ttl, pin } => push_space_entry(out, space, *ttl, *pin)?,
-        Entry::Upload { space, blob, hour } => push_upload(out, space, blob, *hour)?,
+        Entry::Upload { space, hour, blob } => push_upload(out, space, blob, *hour)?,
         Entry::Repin { space, hash, hour } => push_repin(out, space, hash, *hour)?,
         Entry::Put {
             name,
@@ -463,7 +463,7 @@ fn push_entry(out: &mut Vec<u8>, entry: &Entry) -> Result<(), AllocError>
 /// `NoMemory` where there is none for the bytes.
 pub fn write_entry(alloc: Global, entry: &Entry) -> Result<ByteList, NoMemory>
     requires few_links { added_links (fresh_of entry.now) ≤ most_links }
-    requires is_counted { IsCounted entry.now }
+    requires count_fits { RemovalCountFits entry.now }
     ensures bytes { IfOk result (λ bytes. bytes ≡ spelling entry.now) }
     ensures entry { OnOk result (IsEntry entry.now) }
 {

@@ -34,7 +34,7 @@ module _ (P : BlobName → Blob → List ℕ → Type 0) (lasts : (name : BlobNa
   AddsIn space None hour bytes = ⊤
 
   abbrev pub Adds : Entry → List ℕ → Type 0
-  Adds (Upload space blob hour) bytes = AddsIn space (Some blob) hour bytes
+  Adds (Upload space hour blob) bytes = AddsIn space (Some blob) hour bytes
   Adds (Put name root fresh whole hour) bytes = AddsIn name.space fresh hour bytes
   Adds entry bytes = ⊤
 
@@ -115,7 +115,7 @@ module _ (P : BlobName → Blob → List ℕ → Type 0) (lasts : (name : BlobNa
   -- an entry keeps that each blob has bytes of which this is known
   pub stay : (s : State) (all : FinMap blob_cmp (List ℕ)) (entry : Entry) (bytes : List ℕ) → Have P s.blobs all → Adds entry bytes → Have P (after s entry).blobs (kept all entry bytes)
   stay s all (Space space ttl pin) bytes have adds = have
-  stay s all (Upload space blob hour) bytes have adds = added s.blobs all have (blob_name space blob.hash) (blob_of blob hour) bytes adds
+  stay s all (Upload space hour blob) bytes have adds = added s.blobs all have (blob_name space blob.hash) (blob_of blob hour) bytes adds
   stay s all (Repin space hash hour) bytes have adds = repinned s.blobs all have (blob_name space hash) hour (get s.blobs (blob_name space hash)) refl
   stay s all (Put name root fresh whole hour) bytes have adds =
       put_any (λ (t : State). Have P t.blobs (kept_where all name.space fresh bytes)) (with_put_root s name.space root fresh hour) (λ logs. root_kept s all have name.space root fresh hour bytes adds) name root whole

@@ -124,7 +124,7 @@ space_legal s space ttl pin answer made is_ttl is_pin gives = made_by_space (IsL
 pub upload_legal : UploadIsLegal
 upload_legal s space content hour answer made read short gives =
     made_by_upload (IsLegal s) tt s space content hour
-    (λ known room none. both _ _ known (fresh s space content read short (room_has_run s (Upload space (stored_content s content) (hour_of s hour)) room) none)) (λ known blob is. both _ _ known (ap is_some is)) answer made gives
+    (λ known room none. both _ _ known (fresh s space content read short (room_has_run s (Upload space (hour_of s hour) (stored_content s content)) room) none)) (λ known blob is. both _ _ known (ap is_some is)) answer made gives
 
 pub put_legal : PutIsLegal
 put_legal s past name content hour answer made read short gives =

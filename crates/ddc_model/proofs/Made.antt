@@ -44,7 +44,7 @@ module _ (P : Option Entry → Type 0) (none : P None) (s : State) where
   made_by_space space ttl pin some = made_with_room (Some (Space space ttl pin)) (λ room. some)
 
   pub made_by_upload : (space : List ℕ) (content : Content) (hour : ℕ)
-      → (has_space s space ≡ true → full s (Upload space (stored_content s content) (hour_of s hour)) ≡ None → blob_at s space (content_hash content.bytes) ≡ None → P (Some (Upload space (stored_content s content) (hour_of s hour))))
+      → (has_space s space ≡ true → full s (Upload space (hour_of s hour) (stored_content s content)) ≡ None → blob_at s space (content_hash content.bytes) ≡ None → P (Some (Upload space (hour_of s hour) (stored_content s content))))
       → (has_space s space ≡ true → (blob : Blob) → blob_at s space (content_hash content.bytes) ≡ Some blob → P (Some (Repin space (content_hash content.bytes) (hour_of s hour))))
       → (answer : Result (Unit {0}) StoreFault) (made : Option Entry) → UploadAs s space content hour answer made → P made
   made_by_upload space content hour new old answer made gives = by_cases (has_space s space) refl gives where

@@ -90,17 +90,17 @@ expired_logs s space (spot ∷ spots) hour logs is =
     expired_logs (without_slot s (name_at space spot)) space spots hour (removed_logs s logs (name_at space spot) hour on.0) on.1
 
 pub legal_logs : LegalKeepsLogs
-legal_logs s (Space space ttl pin) counted logs is = logs
-legal_logs s (Upload space blob hour) counted logs is = logs
-legal_logs s (Repin space hash hour) counted logs is = logs
-legal_logs s (Put name root fresh whole hour) counted logs is = put_logs s logs name root fresh whole hour (roomy s (Put name root fresh whole hour) is)
-legal_logs s (Finalise name hash hour) counted logs is = added_logs s logs name (done_of (get s.slots name)) hash (roomy s (Finalise name hash hour) is)
-legal_logs s (Delete name hour) counted logs is = removed_logs s logs name hour is
-legal_logs s (Touch name hour) counted logs is = touch_logs s logs name hour (get s.slots name)
-legal_logs s (Expire space spots hour) counted logs is = expired_logs s space spots hour logs is
-legal_logs s (Swept space hashes) counted logs is = logs
-legal_logs s (Cursor space cursor) counted logs is = logs
-legal_logs s (BaseHour hour) counted logs is = logs
-legal_logs s (BaseSlot name finalised pending seen) counted logs is = logs
-legal_logs s (BaseEvent name number op) counted logs is =
-    numbered_logs s logs name number op (and_parts (has_space s name.space) (can_follow (log_of s name.space) number) (fits s (BaseEvent name number op) is)).1 counted
+legal_logs s (Space space ttl pin) number_fits logs is = logs
+legal_logs s (Upload space hour blob) number_fits logs is = logs
+legal_logs s (Repin space hash hour) number_fits logs is = logs
+legal_logs s (Put name root fresh whole hour) number_fits logs is = put_logs s logs name root fresh whole hour (roomy s (Put name root fresh whole hour) is)
+legal_logs s (Finalise name hash hour) number_fits logs is = added_logs s logs name (done_of (get s.slots name)) hash (roomy s (Finalise name hash hour) is)
+legal_logs s (Delete name hour) number_fits logs is = removed_logs s logs name hour is
+legal_logs s (Touch name hour) number_fits logs is = touch_logs s logs name hour (get s.slots name)
+legal_logs s (Expire space spots hour) number_fits logs is = expired_logs s space spots hour logs is
+legal_logs s (Swept space hashes) number_fits logs is = logs
+legal_logs s (Cursor space cursor) number_fits logs is = logs
+legal_logs s (BaseHour hour) number_fits logs is = logs
+legal_logs s (BaseSlot name finalised pending seen) number_fits logs is = logs
+legal_logs s (BaseEvent name number op) number_fits logs is =
+    numbered_logs s logs name number op (and_parts (has_space s name.space) (can_follow (log_of s name.space) number) (fits s (BaseEvent name number op) is)).1 number_fits

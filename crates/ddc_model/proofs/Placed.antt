@@ -144,7 +144,7 @@ fits s entry is = (and_parts (has_room_for_events s entry) (fits_state s entry) 
 
 pub legal_placed : LegalStaysPlaced
 legal_placed s (Space space ttl pin) placed is = placed
-legal_placed s (Upload space blob hour) placed is = added_placed s space blob hour (and_parts (has_space s space) (is_fresh s space blob) is).1 placed
+legal_placed s (Upload space hour blob) placed is = added_placed s space blob hour (and_parts (has_space s space) (is_fresh s space blob) is).1 placed
 legal_placed s (Repin space hash hour) placed is = pin_placed s space hash hour placed
 legal_placed s (Put name root fresh whole hour) placed is =
     put_any IsPlaced (with_put_root s name.space root fresh hour)

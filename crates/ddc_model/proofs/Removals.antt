@@ -265,7 +265,7 @@ touched_alone s name hour (Some slot) = refl
 
 pub blobs_alone : LeavesBlobsAlone
 blobs_alone s all (Space space ttl pin) bytes leaves = (refl, refl)
-blobs_alone s all (Upload space blob hour) bytes leaves = absurd leaves
+blobs_alone s all (Upload space hour blob) bytes leaves = absurd leaves
 blobs_alone s all (Repin space hash hour) bytes leaves = absurd leaves
 blobs_alone s all (Put name root fresh whole hour) bytes leaves = absurd leaves
 blobs_alone s all (Finalise name hash hour) bytes leaves = (added_any (λ (t : State). t.blobs ≡ s.blobs) s (λ logs. refl) name (done_of (get s.slots name)) hash, refl)

@@ -115,7 +115,7 @@ IsNewIn s space (Some blob) = blob_at s space blob.hash ≡ None
 IsNewIn s space None = ⊤
 
 abbrev IsNew : State → Entry → Type 0
-IsNew s (Upload space blob hour) = IsNewIn s space (Some blob)
+IsNew s (Upload space hour blob) = IsNewIn s space (Some blob)
 IsNew s (Put name root fresh whole hour) = IsNewIn s name.space fresh
 IsNew s entry = ⊤
 
@@ -174,7 +174,7 @@ swept_whole leases s space hashes whole lawful = swept_stays s space hashes (λ 
 -- a lawful entry that adds no blob that was there leaves the finalised references whole
 pub stays_whole : (leases : Leases) (s : State) (entry : Entry) → AreWhole s → IsLawful leases s entry → IsNew s entry → AreWhole (after s entry)
 stays_whole leases s (Space space ttl pin) whole lawful new = whole
-stays_whole leases s (Upload space blob hour) whole lawful new = blob_added s space blob new hour whole
+stays_whole leases s (Upload space hour blob) whole lawful new = blob_added s space blob new hour whole
 stays_whole leases s (Repin space hash hour) whole lawful new = blob_pinned s space hash hour whole
 stays_whole leases s (Put name root fresh now_whole hour) whole lawful new = put_stays leases s whole name root fresh now_whole hour lawful new
 stays_whole leases s (Finalise name hash hour) whole lawful new =
@@ -211,7 +211,7 @@ space_whole s space ttl pin answer made whole gives = made_by_space (KeepsWhole 
 pub upload_whole : UploadKeepsWhole
 upload_whole s space content hour answer made whole gives =
     made_by_upload (KeepsWhole s) tt s space content hour
-    (λ known room none. keeps s (Upload space (stored_content s content) (hour_of s hour)) whole (λ leases. tt) none)
+    (λ known room none. keeps s (Upload space (hour_of s hour) (stored_content s content)) whole (λ leases. tt) none)
     (λ known blob is. keeps s (Repin space (content_hash content.bytes) (hour_of s hour)) whole (λ leases. tt) tt) answer made gives
 
 pub put_whole : PutKeepsWhole

@@ -56,7 +56,7 @@ SpaceAs s space ttl pin answer made = EntryWhere (with_room s (Some (Space space
 
 -- a blob that isn't there is added, and one that was stored or named at an earlier hour is pinned
 abbrev pub upload_where : State → Option Blob → List ℕ → Content → ℕ → Option Entry
-upload_where s None space content hour = Some (Upload space (stored_content s content) hour)
+upload_where s None space content hour = Some (Upload space hour (stored_content s content))
 upload_where s (Some blob) space content hour = if nat_lt blob.row.at hour then Some (Repin space (content_hash content.bytes) hour) else None
 
 abbrev pub upload_entry : State → List ℕ → Content → ℕ → Result (Option Entry) StoreFault
@@ -170,7 +170,7 @@ kept_where all space None bytes = all
 
 -- the bytes of blobs that are removed go with them
 abbrev pub kept : FinMap blob_cmp (List ℕ) → Entry → List ℕ → FinMap blob_cmp (List ℕ)
-kept all (Upload space blob hour) bytes = kept_where all space (Some blob) bytes
+kept all (Upload space hour blob) bytes = kept_where all space (Some blob) bytes
 kept all (Put name root fresh whole hour) bytes = kept_where all name.space fresh bytes
 kept all (Swept space hashes) bytes = without_hashes all space hashes
 kept all entry bytes = all

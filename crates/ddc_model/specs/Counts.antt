@@ -23,7 +23,7 @@ link_count s = links_of_all (entries s.blobs)
 
 -- the blob that an entry adds
 abbrev pub fresh_of : Entry → Option Stored
-fresh_of (Upload space blob hour) = Some blob
+fresh_of (Upload space hour blob) = Some blob
 fresh_of (Put name root fresh whole hour) = fresh
 fresh_of entry = None
 

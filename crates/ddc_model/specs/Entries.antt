@@ -104,7 +104,7 @@ has_room_for_events s entry = true
 -- as far as it isn't a matter of the room for events
 abbrev pub fits_state : State → Entry → Bool
 fits_state s (Space space ttl pin) = is_time ttl && is_time pin
-fits_state s (Upload space blob hour) = has_space s space && is_fresh s space blob
+fits_state s (Upload space hour blob) = has_space s space && is_fresh s space blob
 fits_state s (Repin space hash hour) = has_space s space && has_blob s space hash
 fits_state s (Put name root fresh whole hour) = has_space s name.space && is_root s name.space root fresh
 fits_state s (Finalise name hash hour) = has_space s name.space && is_hash (pending_of (get s.slots name)) hash
@@ -206,7 +206,7 @@ without_blobs s space hashes = record s { blobs = without_hashes s.blobs space h
 -- ---- what an entry leaves
 abbrev pub after : State → Entry → State
 after s (Space space ttl pin) = record s { spaces = insert s.spaces space (record { ttl = ttl; pin = pin }) }
-after s (Upload space blob hour) = at_hour (with_blob s space blob hour) hour
+after s (Upload space hour blob) = at_hour (with_blob s space blob hour) hour
 after s (Repin space hash hour) = at_hour (with_pin s space hash hour) hour
 after s (Put name root fresh whole hour) = at_hour (with_slot (noted_put (with_put_root s name.space root fresh hour) name root whole) name (slot_after (get s.slots name) root whole hour)) hour
 after s (Finalise name hash hour) = at_hour (with_slot (noted_added s name (done_of (get s.slots name)) hash) name (record { done = Some hash; pending = None; seen = hour })) hour

@@ -165,7 +165,7 @@ SweptKeepsOthers = (s : State) (all : FinMap blob_cmp (List ℕ)) (space : List 
 
 -- an entry that adds, pins and removes no blob
 abbrev pub LeavesBlobs : Entry → Type 0
-LeavesBlobs (Upload space blob hour) = ⊥
+LeavesBlobs (Upload space hour blob) = ⊥
 LeavesBlobs (Repin space hash hour) = ⊥
 LeavesBlobs (Put name root fresh whole hour) = ⊥
 LeavesBlobs (Swept space hashes) = ⊥
@@ -192,13 +192,13 @@ abbrev pub EmptyHasLogs : Type 0
 EmptyHasLogs = (limits : Limits) → 1 ≤ limits.kept → AreLogs (empty_state limits)
 
 -- the number that an entry gives an event is below 2^64, as that of every entry is which the code can hold
-abbrev pub IsCounted : Entry → Type 0
-IsCounted (BaseEvent name number op) = number ≤ 2 ^ 64 - 1
-IsCounted entry = ⊤
+abbrev pub EventNumberFits : Entry → Type 0
+EventNumberFits (BaseEvent name number op) = number ≤ 2 ^ 64 - 1
+EventNumberFits entry = ⊤
 
 -- a legal entry keeps them so
 abbrev pub LegalKeepsLogs : Type 0
-LegalKeepsLogs = (s : State) (entry : Entry) → IsCounted entry → AreLogs s → legal s entry ≡ true → AreLogs (after s entry)
+LegalKeepsLogs = (s : State) (entry : Entry) → EventNumberFits entry → AreLogs s → legal s entry ≡ true → AreLogs (after s entry)
 
 -- ---- the entries that commands make are legal
 

@@ -29,8 +29,8 @@ pub enum Entry {
     /// A blob is added.
     Upload {
         space: Namespace,
-        blob: Stored,
         hour: u32,
+        blob: Stored,
     },
     /// A present blob is pinned from this hour on.
     Repin {

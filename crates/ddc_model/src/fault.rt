@@ -28,7 +28,8 @@ pub enum StoreFault {
     /// The change would pass this limit.
     Full { what: What, limit: u64 },
     /// The history since the opening, of so many entries with so many links, has no room for the
-    /// change. The store has to be opened again.
+    /// change, and the store has to be opened again. Or the numbers of its namespace's events have
+    /// none, and opening the store again doesn't help.
     HistoryFull { entries: u64, links: u64 },
     /// There was no memory.
     NoMemory,

@@ -140,7 +140,7 @@ module _ (file new : List ℕ) (s : State) (bytes : List ℕ) (before : (name : 
   alone entry leaves = let same = blobs_alone s (bytes_in file s.blobs) entry bytes leaves in ap (bytes_in new) same.0 ∙ unchanged ∙ sym same.1
 
   pub bytes_added : (entry : Entry) → IfSome (fresh_of entry) (λ blob. bytes_from new (first_byte (extent_of blob)) blob.len ≡ bytes) → bytes_in new (after s entry).blobs ≡ kept (bytes_in file s.blobs) entry bytes
-  bytes_added (Upload space blob hour) is = added space blob hour is
+  bytes_added (Upload space hour blob) is = added space blob hour is
   bytes_added (Repin space hash hour) is = pinned_there (blob_name space hash) hour
   bytes_added (Put name root None whole hour) is =
       put_any (λ (t : State). bytes_in new t.blobs ≡ bytes_in file s.blobs) (with_put_root s name.space root None hour) (λ logs. pinned_there (blob_name name.space root) hour) name root whole

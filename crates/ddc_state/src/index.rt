@@ -124,7 +124,7 @@ impl Index {
     {
         match entry {
             Entry::Space { space, ttl, pin } => self.apply_space(space, *ttl, *pin),
-            Entry::Upload { space, blob, hour } => self.apply_upload(alloc, space, blob, *hour),
+            Entry::Upload { space, hour, blob } => self.apply_upload(alloc, space, blob, *hour),
             Entry::Repin { space, hash, hour } => {
                 self.apply_repin(space, hash, *hour);
                 Ok(())

@@ -3,7 +3,7 @@
 ghost use Rattle.std.specs.Prelude.{◌≤◌};
 ghost use Rattle.ddc_model.specs.Counts.{added_links, fresh_of};
 ghost use Rattle.ddc_model.specs.Limits.{most_links};
-ghost use Rattle.ddc_entry.specs.Spelling.{IsCounted};
+ghost use Rattle.ddc_entry.specs.Spelling.{RemovalCountFits};
 
 use ddc_entry::{one_entry, read_entry, write_entry, written_then_read};
 use ddc_model::{Cursor, CursorBox, Entry, NameBox};
@@ -58,7 +58,7 @@ fn bytes_are_an_entry_or_none(rt: HostRuntime) -> Result<(), Fail> {
 // Whether an entry is written as these bytes, and one is read from them.
 fn is_spelled(alloc: Global, entry: &Entry, bytes: &[u8]) -> Result<bool, NoMemory>
     requires few_links { added_links (fresh_of entry.now) ≤ most_links }
-    requires is_counted { IsCounted entry.now }
+    requires count_fits { RemovalCountFits entry.now }
 {
     let written = write_entry(alloc, entry)?;
     Ok(written.as_slice() == bytes && read_entry(alloc, bytes)?.is_some())

@@ -35,8 +35,8 @@ fn a_boxed_cursor_is_the_cursor(rt: HostRuntime) -> Result<(), Fail> {
     Ok(())
 }
 
-// A million steps take 152 MB. The greatest is that of an upload.
+// A million steps take 144 MB. The greatest is that of an upload.
 #[test]
-fn a_step_takes_152_bytes_at_most(rt: HostRuntime) {
-    assert!(rt; size_of::<Step>() <= 152);
+fn a_step_takes_144_bytes_at_most(rt: HostRuntime) {
+    assert!(rt; size_of::<Step>() <= 144);
 }

@@ -83,8 +83,8 @@ fn blob_entry(
     };
     Ok(Entry::Upload {
         space,
-        blob,
         hour: 100,
+        blob,
     })
 }
 

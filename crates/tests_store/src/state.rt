@@ -26,8 +26,8 @@ fn upload_to(alloc: Global, space: Namespace) -> Result<Entry, NoMemory> {
     };
     Ok(Entry::Upload {
         space,
-        blob,
         hour: 100,
+        blob,
     })
 }
 

@@ -4,7 +4,7 @@ use Rattle.std.specs.FinMap.{len}
 use Rattle.ddc_disk.specs.Disk.{Meaning, overwritten}
 use Rattle.ddc_disk.specs.Images.{Images}
 use Rattle.ddc_journal.specs.Pairs.{IsPairOf}
-use Rattle.ddc_entry.specs.Spelling.{IsCounted}
+use Rattle.ddc_entry.specs.Spelling.{RemovalCountFits}
 use Rattle.ddc_names.specs.declared.reference.RefName.{RefName}
 use Rattle.ddc_model.specs.declared.rows.Extent.{Extent}
 use Rattle.ddc_model.specs.declared.entry.Stored.{Stored}
@@ -65,7 +65,7 @@ StartsLow (Some fresh) = fresh.len ≡ 0 → fresh.start ≡ 0
 -- whole and what is sound sound
 pub record IsFit (cache : Cache) (entry : Entry) (blob : Option (List ℕ)) : Type 0 where
   pub legal : legal cache.index entry ≡ true
-  pub counted : IsCounted entry
+  pub count_fits : RemovalCountFits entry
   pub starts : StartsLow (fresh_of entry)
   pub lawful : (leases : Leases) → IsLawful leases cache.index entry
   pub whole : AreWhole (after cache.index entry)

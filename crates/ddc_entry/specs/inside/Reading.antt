@@ -142,7 +142,7 @@ unfoldable pub space_at : Reader Entry
 space_at = made (λ (p : List ℕ × (ℕ × ℕ)). Space p.0 p.1.0 p.1.1) (both name_at (both four_at four_at))
 
 unfoldable pub upload_at : Reader Entry
-upload_at = made (λ (p : List ℕ × (Stored × ℕ)). Upload p.0 p.1.0 p.1.1) (both name_at (both stored_at four_at))
+upload_at = made (λ (p : List ℕ × (Stored × ℕ)). Upload p.0 p.1.1 p.1.0) (both name_at (both stored_at four_at))
 
 unfoldable pub repin_at : Reader Entry
 repin_at = made (λ (p : List ℕ × (IoHash × ℕ)). Repin p.0 p.1.0 p.1.1) (both name_at (both hash_at four_at))

@@ -38,7 +38,7 @@ impl Index {
         hour: u32,
     ) -> Result<(), NoMemory>
         requires { is_fresh self.old.state space.now blob.now ≡ true }
-        ensures ok { OnOk result (self.new ≡ in_state self.old (after self.old.state (Upload space.now blob.now hour))) }
+        ensures ok { OnOk result (self.new ≡ in_state self.old (after self.old.state (Upload space.now hour blob.now))) }
         ensures err { OnErr result (self.new ≡ self.old) }
     {
         self.add_blob(alloc, space, blob, hour)?;

@@ -27,7 +27,7 @@ make-requires-clause-fit g c =
     let s = c.args.self.now.cache.index in
     let absent = not_there s c.args.space.now (content_hash c.args.blob.bytes) c.requires.absent in
     let makes = upload_adds s c.args.space.now c.args.blob c.args.hour c.requires.known absent c.in-Ok.fresh c.hour_of.result c.in-Ok.ensures.stored c.hour_of.ensures (sym c.in_default-full.ensures.fault) in
-    let entry = Upload c.args.space.now c.in-Ok.fresh c.hour_of.result in
+    let entry = Upload c.args.space.now c.hour_of.result c.in-Ok.fresh in
     λ room. upload_fit c.args.self.now.cache c.requires.serves.whole c.args.space.now c.args.blob c.args.hour c.stored.ensures.read c.requires.short entry (Some c.into_whole.result)
     (ap (λ (blob : Stored). blob.len) c.in-Ok.ensures.stored ∙ ap (λ (l : List ℕ). length l) (sym c.into_whole.ensures)) (starts_low s c.args.blob c.in-Ok.fresh c.in-Ok.ensures.stored)
     (ap (λ (l : List ℕ). changed c.args.self.now.cache l (Some entry)) (sym c.into_whole.ensures)) makes
@@ -37,6 +37,6 @@ returns-clause-gives g c =
     let s = c.args.self.now.cache.index in
     let absent = not_there s c.args.space.now (content_hash c.args.blob.bytes) c.requires.absent in
     let makes = upload_adds s c.args.space.now c.args.blob c.args.hour c.requires.known absent c.in-Ok.fresh c.hour_of.result c.in-Ok.ensures.stored c.hour_of.ensures (sym c.in_default-full.ensures.fault) in
-    let entry = Upload c.args.space.now c.in-Ok.fresh c.hour_of.result in
+    let entry = Upload c.args.space.now c.hour_of.result c.in-Ok.fresh in
     gives g.D.Disk.meaning c.args.self.now c.make.new.self c.into_whole.result entry tt (UploadAs s c.args.space.now c.args.blob c.args.hour) makes
     c.args.blob.bytes (ap (λ (l : List ℕ). changed c.args.self.now.cache l (Some entry)) c.into_whole.ensures) c.make.result c.make.ensures.gives
