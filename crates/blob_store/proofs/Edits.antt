@@ -1,5 +1,5 @@
 -- Extents in order, when one is put among them or taken out.
-use Rattle.std.specs.Prelude.{◌≡◌, ℕ, ◌+◌, ◌≤◌, ◌<◌, true, false, cond, not, List, [], ◌∷◌, ◌++◌, None, Some, refl}
+use Rattle.std.specs.Prelude.{◌≡◌, ℕ, ◌+◌, ◌≤◌, ◌<◌, true, false, cond, not, List, [], ◌∷◌, ◌++◌, length, None, Some, refl}
 use Rattle.std.proofs.Common.{sym, ap, subst, ⊎_elim, arith}
 use Rattle.std.specs.declared.cmp.Ordering.{Ordering}
 use Rattle.std.specs.declared.cmp.Ordering.TheVariants.{Less, Equal, Greater}
@@ -37,7 +37,32 @@ put_in_order extent low high (e ∷ es) w m o =
     (λ (h : e.0 + e.1 ≤ extent.start). subst P (sym (is_more extent.start e.0 (omega (arith, h, o.1)))) (o.0, o.1, o.2, put_in_order extent (e.0 + e.1) high es (record { above = h; some = w.some; below = w.below }) m.1 o.3))
     m.0
 
+-- there are no fewer of them
+pub put_no_fewer : (k v : ℕ) (es : List (ℕ × ℕ)) → length es ≤ length (put nat_cmp k v es)
+put_no_fewer k v [] = omega arith
+put_no_fewer k v (e ∷ es) =
+    elim (nat_cmp k e.0) as (λ r. length (e ∷ es) ≤ length (by_order r ((k, v) ∷ e ∷ es) ((e.0, v) ∷ es) (e ∷ put nat_cmp k v es))) [
+      | Less ↦ omega arith
+      | Equal ↦ omega arith
+      | Greater ↦ omega (arith, put_no_fewer k v es)
+    ]
+
 -- ---- one less
+
+-- of two or more, one and more are left
+pub without_leaves : (start low high : ℕ) (es : List (ℕ × ℕ)) → AreInOrder low high es → 2 ≤ length es → 1 ≤ length (without start es)
+without_leaves start low high [] o h = absurd (omega (arith, h))
+without_leaves start low high (e ∷ []) o h = absurd (omega (arith, h))
+without_leaves start low high (e ∷ f ∷ es) o h =
+    let rest : List (ℕ × ℕ) = without start es in
+    elim (nat_cmp start e.0) as (λ r. nat_cmp start e.0 ≡ r → 1 ≤ length (cond (not (is_eq r)) (e ∷ without start (f ∷ es)) (without start (f ∷ es)))) [
+      | Less ↦ λ _. omega arith
+      | Greater ↦ λ _. omega arith
+      | Equal ↦ λ is.
+          let at : start ≡ e.0 = nat_cmp-IsAntisymmetric start e.0 is in
+          let less : nat_cmp start f.0 ≡ Less = is_less start f.0 (omega (arith, at, o.1, o.3.0)) in
+          subst (λ r. 1 ≤ length (cond (not (is_eq r)) (f ∷ rest) rest)) (sym less) (omega arith)
+    ] refl
 
 pub without_append : (start : ℕ) (xs ys : List (ℕ × ℕ)) → without start (xs ++ ys) ≡ without start xs ++ without start ys
 without_append start [] ys = refl

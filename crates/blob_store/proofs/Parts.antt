@@ -1,8 +1,8 @@
 -- An area that is parted: the extents on the two sides of the middle unit, and the one that has it.
-use Rattle.std.specs.Prelude.{◌≡◌, ℕ, ◌+◌, ◌<◌, List, ◌++◌}
+use Rattle.std.specs.Prelude.{◌≡◌, ℕ, ◌+◌, ◌≤◌, ◌<◌, List, ◌++◌, length, Some}
 use Rattle.std.proofs.Common.{sym, ap, subst, ◌∙◌, arith}
 use Rattle.blob_store.specs.declared.area.Area.{Area}
-use Rattle.blob_store.specs.declared.area.Area.TheVariants.{Empty, Parted'}
+use Rattle.blob_store.specs.declared.area.Area.TheVariants.{Empty, One, Parted'}
 use Rattle.blob_store.specs.declared.area.PartedArea.{PartedArea}
 use Rattle.blob_store.specs.inside.Areas.{extents_in, listed_held, AreSpanned}
 use Rattle.blob_store.specs.inside.Spans.{span_of}
@@ -10,13 +10,14 @@ use Rattle.blob_store.specs.inside.Spans.{span_of}
 -- how many parts an area has
 abbrev pub count_parts : Area → ℕ
 count_parts Empty = 0
+count_parts (One units start) = 0
 count_parts (Parted' p held span left right) = count_parts left + count_parts right + 1
 
 abbrev pub parts_in : PartedArea → List (ℕ × ℕ)
 parts_in parted = extents_in parted.left ++ (listed_held parted.held ++ extents_in parted.right)
 
 abbrev pub ArePartsSpanned : PartedArea → Type 0
-ArePartsSpanned parted = (parted.span ≡ span_of (parts_in parted)) × AreSpanned parted.left × AreSpanned parted.right
+ArePartsSpanned parted = (Some parted.span ≡ span_of (parts_in parted)) × AreSpanned parted.left × AreSpanned parted.right × (2 ≤ length (parts_in parted))
 
 abbrev count_in : PartedArea → ℕ
 count_in parted = count_parts parted.left + count_parts parted.right + 1

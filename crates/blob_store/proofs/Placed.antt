@@ -1,15 +1,17 @@
 -- An extent is put into a parted area, or taken out of it.
-use Rattle.std.specs.Prelude.{◌≡◌, ℕ, ◌+◌, ◌≤◌, ◌<◌, true, false, cond, not, List, [], ◌∷◌, ◌++◌, Option, None, Some, IfSome, refl}
+use Rattle.std.specs.Prelude.{◌≡◌, ℕ, ◌+◌, ◌≤◌, ◌<◌, true, false, cond, not, List, [], ◌∷◌, ◌++◌, None, Some, refl}
 use Rattle.std.proofs.Common.{sym, ◌∙◌, ap, subst, ⊎_elim, arith}
 use Rattle.std.specs.declared.cmp.Ordering.TheVariants.{Less, Equal, Greater}
 use Rattle.std.specs.Ordering.{nat_cmp, eq_by_cmp, is_eq}
 use Rattle.std.specs.FinMap.{find, put, nat_cmp-IsAntisymmetric}
 use Rattle.ddc_model.specs.declared.rows.Extent.{Extent}
 use Rattle.blob_store.specs.declared.area.Area.{Area}
-use Rattle.blob_store.specs.declared.area.Area.TheVariants.{Empty, Parted'}
+use Rattle.blob_store.specs.declared.area.Area.TheVariants.{Empty, One, Parted'}
 use Rattle.blob_store.specs.declared.area.PartedArea.{PartedArea}
+use Rattle.blob_store.specs.declared.held.Held.{Held}
+use Rattle.blob_store.specs.declared.held.Held.TheVariants.{Free, Taken}
 use Rattle.blob_store.specs.inside.Runs.{AreInOrder, MissesAll, LiesWithin, without, end_of}
-use Rattle.blob_store.specs.inside.Areas.{extents_in, listed_held, middle_unit, HasMiddle, IsPlaced, AreSpanned}
+use Rattle.blob_store.specs.inside.Areas.{extents_in, listed_held, middle_unit, HasMiddle, IsHeldAt, IsPlaced, AreSpanned}
 use Rattle.blob_store.proofs.Runs.{is_more, in_order_weaker, in_order_back, misses_front, misses_back, lies_before, not_below, not_above, found_front, found_back, some_is_not_none, same_some}
 use Rattle.blob_store.proofs.Edits.{put_front, put_back, put_in_order, without_append, without_none, without_in_order, found_within, none_after}
 use Rattle.blob_store.proofs.Parts.{parts_in, ArePartsSpanned}
@@ -18,7 +20,7 @@ use Rattle.blob_store.proofs.Parts.{parts_in, ArePartsSpanned}
 abbrev pub ArePartsPlaced : ℕ → ℕ → PartedArea → Type 0
 ArePartsPlaced low high parted =
     AreInOrder low high (parts_in parted)
-    × IfSome parted.held (HasMiddle (middle_unit low high))
+    × IsHeldAt (middle_unit low high) parted.held
     × AreInOrder low (middle_unit low high) (extents_in parted.left)
     × AreInOrder (middle_unit low high + 1) high (extents_in parted.right)
     × IsPlaced low (middle_unit low high) parted.left
@@ -26,6 +28,7 @@ ArePartsPlaced low high parted =
 
 pub in_order_of : (low high : ℕ) (area : Area) → IsPlaced low high area → AreInOrder low high (extents_in area)
 in_order_of low high Empty p = tt
+in_order_of low high (One units start) p = p
 in_order_of low high (Parted' q held span left right) p = p.0
 
 -- what is known of an area that is about to change, by its parts
@@ -44,21 +47,25 @@ changing low high area view parted inside is same full placed spans p s = record
 -- ---- an extent more
 
 -- before the extent that has the middle unit, and those after it
-back_follows : (extent : Extent) (mid low high : ℕ) (held : Option Extent) (ys : List (ℕ × ℕ)) → extent.start + extent.units ≤ mid → IfSome held (HasMiddle mid) → MissesAll extent (listed_held held ++ ys) → AreInOrder low high (listed_held held ++ ys) → AreInOrder (mid + 1) high ys → AreInOrder (extent.start + extent.units) high (listed_held held ++ ys)
-back_follows extent mid low high None ys h m f o r = in_order_weaker (mid + 1) high (extent.start + extent.units) high ys (omega (arith, h)) (omega arith) r
-back_follows extent mid low high (Some e) ys h m f o r =
-    let before : extent.start + extent.units ≤ e.start = ⊎_elim (λ x. x) (λ x. absurd (omega (arith, x, h, m.1))) f.0 in
+back_follows : (extent : Extent) (mid low high : ℕ) (held : Held) (ys : List (ℕ × ℕ)) → extent.start + extent.units ≤ mid → IsHeldAt mid held → MissesAll extent (listed_held held ++ ys) → AreInOrder low high (listed_held held ++ ys) → AreInOrder (mid + 1) high ys → AreInOrder (extent.start + extent.units) high (listed_held held ++ ys)
+back_follows extent mid low high Free ys h m f o r = in_order_weaker (mid + 1) high (extent.start + extent.units) high ys (omega (arith, h)) (omega arith) r
+back_follows extent mid low high (Taken units start) ys h m f o r =
+    let before : extent.start + extent.units ≤ start = ⊎_elim (λ x. x) (λ x. absurd (omega (arith, x, h, m.1))) f.0 in
     (before, o.1, o.2, o.3)
 
 -- after the extent that has the middle unit
-put_past : (k n mid : ℕ) (held : Option Extent) (ys : List (ℕ × ℕ)) → mid < k → IfSome held (HasMiddle mid) → put nat_cmp k n (listed_held held ++ ys) ≡ listed_held held ++ put nat_cmp k n ys
-put_past k n mid None ys h m = refl
-put_past k n mid (Some e) ys h m = rw (is_more k e.start (omega (arith, h, m.0))) refl
+put_past : (k n mid : ℕ) (held : Held) (ys : List (ℕ × ℕ)) → mid < k → IsHeldAt mid held → put nat_cmp k n (listed_held held ++ ys) ≡ listed_held held ++ put nat_cmp k n ys
+put_past k n mid Free ys h m = refl
+put_past k n mid (Taken units start) ys h m = rw (is_more k start (omega (arith, h, m.0))) refl
 
 -- two extents that have the middle unit don't miss each other
-no_held : (extent : Extent) (mid : ℕ) (held : Option Extent) (ys : List (ℕ × ℕ)) → HasMiddle mid extent → IfSome held (HasMiddle mid) → MissesAll extent (listed_held held ++ ys) → held ≡ None
-no_held extent mid None ys h m f = refl
-no_held extent mid (Some e) ys h m f = absurd (⊎_elim (λ x. omega (arith, x, h.1, m.0)) (λ x. omega (arith, x, h.0, m.1)) f.0)
+no_held : (extent : Extent) (mid : ℕ) (held : Held) (ys : List (ℕ × ℕ)) → HasMiddle mid extent → IsHeldAt mid held → MissesAll extent (listed_held held ++ ys) → held ≡ Free
+no_held extent mid Free ys h m f = refl
+no_held extent mid (Taken units start) ys h m f = absurd (⊎_elim (λ x. omega (arith, x, h.1, m.0)) (λ x. omega (arith, x, h.0, m.1)) f.0)
+
+-- the same parts with this extent at the middle unit
+abbrev pub held_by : PartedArea → Held → PartedArea
+held_by parted held = record { held = held; span = parted.span; left = parted.left; right = parted.right }
 
 pub record PutIn (low high : ℕ) (extent : Extent) (old new : PartedArea) : Type 0 where
   pub list : parts_in new ≡ put nat_cmp extent.start extent.units (parts_in old)
@@ -95,15 +102,16 @@ module _ (low high : ℕ) (extent : Extent) (old new : PartedArea) (w : LiesWith
         placed = subst (ArePartsPlaced low high) (sym is) (subst (AreInOrder low high) (ap parts_in is) (in_order list), p.1, subst (AreInOrder low (middle_unit low high)) (sym l) order, p.3, q, p.5);
       }
 
-  pub put_here : extent.start ≤ middle_unit low high → middle_unit low high < extent.start + extent.units → new ≡ record { held = Some extent; span = old.span; left = old.left; right = old.right } → PutIn low high extent old new
-  put_here b a is =
+  pub put_here : extent.start ≤ middle_unit low high → middle_unit low high < extent.start + extent.units → (held : Held) → held ≡ Taken extent.units extent.start → new ≡ held_by old held → PutIn low high extent old new
+  put_here b a held there was =
+      let is : new ≡ held_by old (Taken extent.units extent.start) = was ∙ ap (held_by old) there in
       let xs = extents_in old.left in
       let ys = extents_in old.right in
-      let none : old.held ≡ None = no_held extent (middle_unit low high) old.held ys (b, a) p.1 (misses_back extent xs (listed_held old.held ++ ys) f) in
+      let none : old.held ≡ Free = no_held extent (middle_unit low high) old.held ys (b, a) p.1 (misses_back extent xs (listed_held old.held ++ ys) f) in
       let before = lies_before extent low (middle_unit low high) xs (omega (arith, a)) p.2 (misses_front extent xs (listed_held old.held ++ ys) f) in
       let list : parts_in new ≡ put nat_cmp extent.start extent.units (parts_in old) =
       ap parts_in is
-      ∙ sym (ap (λ (held : Option Extent). put nat_cmp extent.start extent.units (xs ++ (listed_held held ++ ys))) none
+      ∙ sym (ap (λ (held : Held). put nat_cmp extent.start extent.units (xs ++ (listed_held held ++ ys))) none
       ∙ put_back extent.start extent.units low extent.start xs ys (omega arith) before
       ∙ ap (λ (zs : List (ℕ × ℕ)). xs ++ zs) (put_front extent.start extent.units (middle_unit low high + 1) high [] ys (omega (arith, b)) p.3)) in
       record {
@@ -118,29 +126,29 @@ pub record TakenOut (low high start : ℕ) (old new : PartedArea) : Type 0 where
   pub placed : ArePartsPlaced low high new
 
 -- what is found at the middle unit has it
-found_held : (start n mid : ℕ) (held : Option Extent) → IfSome held (HasMiddle mid) → find nat_cmp start (listed_held held) ≡ Some n → mid < start + n
-found_held start n mid None m f = absurd (some_is_not_none n (sym f))
-found_held start n mid (Some e) m f =
-    elim (nat_cmp start e.start) as (λ r. nat_cmp start e.start ≡ r → cond (is_eq r) (Some e.units) None ≡ Some n → mid < start + n) [
+found_held : (start n mid : ℕ) (held : Held) → IsHeldAt mid held → find nat_cmp start (listed_held held) ≡ Some n → mid < start + n
+found_held start n mid Free m f = absurd (some_is_not_none n (sym f))
+found_held start n mid (Taken units first) m f =
+    elim (nat_cmp start first) as (λ r. nat_cmp start first ≡ r → cond (is_eq r) (Some units) None ≡ Some n → mid < start + n) [
       | Less ↦ λ _ f. absurd (some_is_not_none n (sym f))
       | Greater ↦ λ _ f. absurd (some_is_not_none n (sym f))
       | Equal ↦ λ is f.
-          let at : start ≡ e.start = nat_cmp-IsAntisymmetric start e.start is in
-          let as_many : e.units ≡ n = same_some e.units n f in
+          let at : start ≡ first = nat_cmp-IsAntisymmetric start first is in
+          let as_many : units ≡ n = same_some units n f in
           omega (arith, at, as_many, m.1)
     ] refl f
 
 -- what begins after the middle unit isn't at it
-not_held : (start mid : ℕ) (held : Option Extent) → mid < start → IfSome held (HasMiddle mid) → find nat_cmp start (listed_held held) ≡ None
-not_held start mid None h m = refl
-not_held start mid (Some e) h m = rw (is_more start e.start (omega (arith, h, m.0))) refl
+not_held : (start mid : ℕ) (held : Held) → mid < start → IsHeldAt mid held → find nat_cmp start (listed_held held) ≡ None
+not_held start mid Free h m = refl
+not_held start mid (Taken units first) h m = rw (is_more start first (omega (arith, h, m.0))) refl
 
 -- where it is found at the middle unit, nothing is left there
-held_goes : (start n : ℕ) (held : Option Extent) → find nat_cmp start (listed_held held) ≡ Some n → without start (listed_held held) ≡ []
-held_goes start n None f = refl
-held_goes start n (Some e) f =
-    let one : List (ℕ × ℕ) = (e.start, e.units) ∷ [] in
-    elim (eq_by_cmp nat_cmp start e.start) as (λ b. cond b (Some e.units) None ≡ Some n → cond (not b) one [] ≡ []) [
+held_goes : (start n : ℕ) (held : Held) → find nat_cmp start (listed_held held) ≡ Some n → without start (listed_held held) ≡ []
+held_goes start n Free f = refl
+held_goes start n (Taken units first) f =
+    let one : List (ℕ × ℕ) = (first, units) ∷ [] in
+    elim (eq_by_cmp nat_cmp start first) as (λ b. cond b (Some units) None ≡ Some n → cond (not b) one [] ≡ []) [
       | true ↦ λ _. refl
       | false ↦ λ f. absurd (some_is_not_none n (sym f))
     ] f
@@ -215,7 +223,7 @@ module _ (low high start n : ℕ) (old : PartedArea) (p : ArePartsPlaced low hig
         );
       }
 
-  pub taken_here : start ≤ middle_unit low high → middle_unit low high < start + n → (new : PartedArea) → new ≡ record { held = None; span = old.span; left = old.left; right = old.right } → TakenOut low high start old new
+  pub taken_here : start ≤ middle_unit low high → middle_unit low high < start + n → (new : PartedArea) → new ≡ record { held = Free; span = old.span; left = old.left; right = old.right } → TakenOut low high start old new
   taken_here b a new is =
       let no_xs : find nat_cmp start xs ≡ None =
       elim (find nat_cmp start xs) as (λ r. find nat_cmp start xs ≡ r → r ≡ None) [

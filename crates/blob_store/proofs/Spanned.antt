@@ -1,5 +1,5 @@
 -- What the span of extents says of a search among them.
-use Rattle.std.specs.Prelude.{◌≡◌, ℕ, ◌+◌, ◌-◌, ◌≤◌, ◌<◌, max, true, false, cond, nat_lt, nat_le, List, [], ◌∷◌, ◌++◌, Option, None, Some, refl}
+use Rattle.std.specs.Prelude.{◌≡◌, ℕ, ◌+◌, ◌-◌, ◌≤◌, ◌<◌, max, true, false, cond, nat_lt, nat_le, List, [], ◌∷◌, ◌++◌, length, Option, None, Some, refl}
 use Rattle.std.proofs.Common.{sym, ◌∙◌, ap, arith, tests}
 use Rattle.std.proofs.lemmas.Bool.{le-leb, lt-leb}
 use Rattle.ddc_model.specs.declared.rows.Extent.{Extent}
@@ -114,9 +114,10 @@ pub span_end : (from : ℕ) (es : List (ℕ × ℕ)) (span : Span) → span_of e
 span_end from [] span is = absurd (some_is_not_none span (sym is))
 span_end from (e ∷ es) span is = sym (ap (λ (s : Span). s.last) (same_span _ _ is)) ∙ span_last from e es
 
-pub no_span : (es : List (ℕ × ℕ)) → span_of es ≡ None → es ≡ []
-no_span [] is = refl
-no_span (e ∷ es) is = absurd (some_is_not_none (span_from e es) is)
+-- one extent and more have a span
+pub no_span_of_none : (es : List (ℕ × ℕ)) → span_of es ≡ None → 1 ≤ length es → ⊥
+no_span_of_none [] is h = omega (arith, h)
+no_span_of_none (e ∷ es) is h = some_is_not_none (span_from e es) is
 
 pub next_quits : (at low high : ℕ) (es : List (ℕ × ℕ)) (span : Span) → span_of es ≡ Some span → span.last ≤ at → AreInOrder low high es → next_after at es ≡ None
 next_quits at low high es span is h o = next_none at low high es o (omega (arith, span_end low es span is, h))

@@ -14,7 +14,7 @@ use std::marker::Model;
 /// The claimed extents of a blob file. Contracts see the number of the file's units and the claimed extents.
 ///
 /// No call walks through the claimed extents: each takes at most about as many steps as the number of units has binary
-/// digits. A claim takes about 100 bytes where the claimed extents lie close together, and its release gives them back.
+/// digits. A claim takes 40 to 60 bytes where the claimed extents lie close together, and its release gives them back.
 #[derive(Drop)]
 pub struct BlobStore {
     alloc: Global,

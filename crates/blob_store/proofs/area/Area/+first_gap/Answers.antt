@@ -2,30 +2,30 @@ use Rattle.std.proofs.Common.{◌≡◌, ◌<◌, refl, sym, ap, subst, ◌∙�
 use Rattle.blob_store.specs.inside.Areas.{extents_in, listed_held}
 use Rattle.blob_store.specs.inside.Runs.{AreInOrder, first_gap, end_of}
 use Rattle.blob_store.proofs.Parts.{count_parts, parts_in, opened}
-use Rattle.blob_store.proofs.Runs.{in_order_front, in_order_back}
+use Rattle.blob_store.proofs.Runs.{in_order_weaker, in_order_front, in_order_back}
 use Rattle.blob_store.proofs.Spanned.{span_below, gap_begins, gap_quits, gap_front, gap_back}
 use Rattle.blob_store.proofs.area.Area.+first_gap.Goals as goal
 
-pub overflow_sub-span : goal.overflow_sub-span
-overflow_sub-span t c =
+pub overflow_sub-parted : goal.overflow_sub-parted
+overflow_sub-parted t c =
     let v = c.deref-parted.result.now in
     let o = opened c.args.self.now _ v _ c.in-Parted.is c.deref-parted.ensures refl (λ s. s) refl c.requires.spanned in
     let order : AreInOrder c.args.from (2 ^ 51) (parts_in v) = subst (AreInOrder c.args.from (2 ^ 51)) o.full c.requires.ordered in
-    span_below c.args.from (2 ^ 51) (parts_in v) c.in_ok-span.span (sym o.spans.0 ∙ c.in_ok-span.was) order
+    span_below c.args.from (2 ^ 51) (parts_in v) v.span (sym o.spans.0) order
 
-pub returns-then-units-span : goal.returns-then-units-span
-returns-then-units-span t c =
+pub returns-then-count-parted : goal.returns-then-count-parted
+returns-then-count-parted t c =
     let v = c.deref-parted.result.now in
     let o = opened c.args.self.now _ v _ c.in-Parted.is c.deref-parted.ensures refl (λ s. s) refl c.requires.spanned in
     let order : AreInOrder c.args.from (2 ^ 51) (parts_in v) = subst (AreInOrder c.args.from (2 ^ 51)) o.full c.requires.ordered in
-    sym (ap (first_gap c.args.from c.args.units) o.full ∙ gap_begins c.args.from c.args.units (2 ^ 51) (parts_in v) c.in_ok-span.span (sym o.spans.0 ∙ c.in_ok-span.was) c.if-units-span.true order)
+    sym (ap (first_gap c.args.from c.args.count) o.full ∙ gap_begins c.args.from c.args.count (2 ^ 51) (parts_in v) v.span (sym o.spans.0) c.if-count-parted.true order)
 
-pub returns-then-span-units : goal.returns-then-span-units
-returns-then-span-units t c =
+pub returns-then-parted-count : goal.returns-then-parted-count
+returns-then-parted-count t c =
     let v = c.deref-parted.result.now in
     let o = opened c.args.self.now _ v _ c.in-Parted.is c.deref-parted.ensures refl (λ s. s) refl c.requires.spanned in
     let order : AreInOrder c.args.from (2 ^ 51) (parts_in v) = subst (AreInOrder c.args.from (2 ^ 51)) o.full c.requires.ordered in
-    sym (ap (first_gap c.args.from c.args.units) o.full ∙ gap_quits c.args.from c.args.units (2 ^ 51) (parts_in v) c.in_ok-span.span (sym o.spans.0 ∙ c.in_ok-span.was) c.if-units-span.false c.if-span-units.true order)
+    sym (ap (first_gap c.args.from c.args.count) o.full ∙ gap_quits c.args.from c.args.count (2 ^ 51) (parts_in v) v.span (sym o.spans.0) c.if-count-parted.false c.if-parted-count.true order)
 
 pub first_gap-requires : goal.first_gap-requires
 first_gap-requires t c =
@@ -40,10 +40,17 @@ pub returns-in-Some : goal.returns-in-Some
 returns-in-Some t c =
     let v = c.deref-parted.result.now in
     let o = opened c.args.self.now _ v _ c.in-Parted.is c.deref-parted.ensures refl (λ s. s) refl c.requires.spanned in
-    sym (ap (first_gap c.args.from c.args.units) o.full ∙ gap_front c.args.from c.args.units c.in-Some.start (extents_in v.left) (listed_held v.held ++ extents_in v.right) (sym c.in-Some.ensures))
+    sym (ap (first_gap c.args.from c.args.count) o.full ∙ gap_front c.args.from c.args.count c.in-Some.start (extents_in v.left) (listed_held v.held ++ extents_in v.right) (sym c.in-Some.ensures))
 
-pub gap_before-requires : goal.gap_before-requires
-gap_before-requires t c =
+pub end_after-from-requires-clause-ordered : goal.end_after-from-requires-clause-ordered
+end_after-from-requires-clause-ordered t c =
+    let v = c.deref-parted.result.now in
+    let o = opened c.args.self.now _ v _ c.in-Parted.is c.deref-parted.ensures refl (λ s. s) refl c.requires.spanned in
+    let order : AreInOrder c.args.from (2 ^ 51) (parts_in v) = subst (AreInOrder c.args.from (2 ^ 51)) o.full c.requires.ordered in
+    in_order_weaker c.args.from (2 ^ 51) 0 (2 ^ 51) (extents_in v.left) (omega arith) (omega arith) (in_order_front c.args.from (2 ^ 51) (extents_in v.left) (listed_held v.held ++ extents_in v.right) order)
+
+pub gap_before-requires-2 : goal.gap_before-requires-2
+gap_before-requires-2 t c =
     let v = c.deref-parted.result.now in
     let o = opened c.args.self.now _ v _ c.in-Parted.is c.deref-parted.ensures refl (λ s. s) refl c.requires.spanned in
     let order : AreInOrder c.args.from (2 ^ 51) (parts_in v) = subst (AreInOrder c.args.from (2 ^ 51)) o.full c.requires.ordered in
@@ -64,9 +71,9 @@ pub returns-in-Some-gap_before : goal.returns-in-Some-gap_before
 returns-in-Some-gap_before t c =
     let v = c.deref-parted.result.now in
     let o = opened c.args.self.now _ v _ c.in-Parted.is c.deref-parted.ensures refl (λ s. s) refl c.requires.spanned in
-    sym (ap (first_gap c.args.from c.args.units) o.full ∙ gap_back c.args.from c.args.units (extents_in v.left) (listed_held v.held ++ extents_in v.right) (sym c.in_default-first_gap.ensures)
-    ∙ ap (λ (n : ℕ). first_gap n c.args.units (listed_held v.held ++ extents_in v.right)) (sym c.end_after-from.ensures)
-    ∙ gap_front c.end_after-from.result c.args.units c.in-Some-gap_before.start (listed_held v.held) (extents_in v.right) (sym c.in-Some-gap_before.ensures))
+    sym (ap (first_gap c.args.from c.args.count) o.full ∙ gap_back c.args.from c.args.count (extents_in v.left) (listed_held v.held ++ extents_in v.right) (sym c.in_default.ensures)
+    ∙ ap (λ (n : ℕ). first_gap n c.args.count (listed_held v.held ++ extents_in v.right)) (sym c.end_after-from.ensures)
+    ∙ gap_front c.end_after-from.result c.args.count c.in-Some-gap_before.start (listed_held v.held) (extents_in v.right) (sym c.in-Some-gap_before.ensures))
 
 pub first_gap-requires-2 : goal.first_gap-requires-2
 first_gap-requires-2 t c =
@@ -84,7 +91,7 @@ pub returns : goal.returns
 returns t c =
     let v = c.deref-parted.result.now in
     let o = opened c.args.self.now _ v _ c.in-Parted.is c.deref-parted.ensures refl (λ s. s) refl c.requires.spanned in
-    c.first_gap-2.ensures ∙ ap (λ (n : ℕ). first_gap n c.args.units (extents_in v.right)) c.end_of_held.ensures
-    ∙ sym (ap (first_gap c.args.from c.args.units) o.full ∙ gap_back c.args.from c.args.units (extents_in v.left) (listed_held v.held ++ extents_in v.right) (sym c.in_default-first_gap.ensures)
-    ∙ ap (λ (n : ℕ). first_gap n c.args.units (listed_held v.held ++ extents_in v.right)) (sym c.end_after-from.ensures)
-    ∙ gap_back c.end_after-from.result c.args.units (listed_held v.held) (extents_in v.right) (sym c.in_default-gap_before.ensures))
+    c.first_gap-2.ensures ∙ ap (λ (n : ℕ). first_gap n c.args.count (extents_in v.right)) c.end_of_held.ensures
+    ∙ sym (ap (first_gap c.args.from c.args.count) o.full ∙ gap_back c.args.from c.args.count (extents_in v.left) (listed_held v.held ++ extents_in v.right) (sym c.in_default.ensures)
+    ∙ ap (λ (n : ℕ). first_gap n c.args.count (listed_held v.held ++ extents_in v.right)) (sym c.end_after-from.ensures)
+    ∙ gap_back c.end_after-from.result c.args.count (listed_held v.held) (extents_in v.right) (sym c.in_default-gap_before.ensures))

@@ -1,7 +1,9 @@
-use Rattle.std.proofs.Common.{◌≡◌, ◌<◌, ◌-◌, ◌+◌, ◌++◌, ◌^◌, ℕ, refl, sym, ap, subst, ◌∙◌, arith}
+use Rattle.std.proofs.Common.{◌≡◌, ◌<◌, ◌≤◌, ◌-◌, ◌+◌, ◌++◌, ◌^◌, ℕ, length, refl, sym, ap, subst, ◌∙◌, arith}
 use Rattle.std.specs.Ordering.{nat_cmp}
 use Rattle.std.specs.FinMap.{put}
-use Rattle.blob_store.specs.inside.Areas.{extents_in, listed_held, middle_unit, IsPlaced}
+use Rattle.blob_store.specs.inside.Areas.{extents_in, listed_held, middle_unit, IsPlaced, AreSpanned}
+use Rattle.blob_store.specs.declared.area.PartedArea.{PartedArea}
+use Rattle.blob_store.proofs.Edits.{put_no_fewer}
 use Rattle.blob_store.specs.inside.Runs.{MissesAll, LiesWithin}
 use Rattle.blob_store.proofs.Runs.{misses_front, misses_back, in_order_weaker}
 use Rattle.blob_store.proofs.Parts.{parts_in}
@@ -47,7 +49,7 @@ span_of_parts-parted-requires-clause-ordered t c =
           (subst (λ (n : ℕ). IsPlaced (n + 1) c.args.high w.insert.new.self) m w.insert.ensures.placed)
       | else-middle-extent+then-extent-middle+in_ok-insert-in-Parted-2 w ↦ put_left c.args.low c.args.high c.args.extent v new c.requires.within free o.placed (omega (arith, m, w.if-extent-middle.true)) w.insert-then-extent-middle.new.self w.parted-is w.in_ok-insert-in-Parted-2.ensures.ok
           (subst (λ (n : ℕ). IsPlaced c.args.low n w.insert-then-extent-middle.new.self) m w.insert-then-extent-middle.ensures.placed)
-      | else-middle-extent+else-extent-middle w ↦ put_here c.args.low c.args.high c.args.extent v new c.requires.within free o.placed (omega (arith, m, w.if-middle-extent.false)) (omega (arith, m, w.if-extent-middle.false)) w.parted-is
+      | else-middle-extent+else-extent-middle w ↦ put_here c.args.low c.args.high c.args.extent v new c.requires.within free o.placed (omega (arith, m, w.if-middle-extent.false)) (omega (arith, m, w.if-extent-middle.false)) w.of-parted.result w.of-parted.ensures w.parted-is
     ] in
     in_order_weaker c.args.low c.args.high 0 (2 ^ 51) (parts_in new) (omega arith) c.requires.bound put_in.placed.0
 
@@ -63,7 +65,7 @@ returns-after-middle-extent-clause-ok t c =
           (subst (λ (n : ℕ). IsPlaced (n + 1) c.args.high w.insert.new.self) m w.insert.ensures.placed)
       | else-middle-extent+then-extent-middle+in_ok-insert-in-Parted-2 w ↦ put_left c.args.low c.args.high c.args.extent v new c.requires.within free o.placed (omega (arith, m, w.if-extent-middle.true)) w.insert-then-extent-middle.new.self w.parted-is w.in_ok-insert-in-Parted-2.ensures.ok
           (subst (λ (n : ℕ). IsPlaced c.args.low n w.insert-then-extent-middle.new.self) m w.insert-then-extent-middle.ensures.placed)
-      | else-middle-extent+else-extent-middle w ↦ put_here c.args.low c.args.high c.args.extent v new c.requires.within free o.placed (omega (arith, m, w.if-middle-extent.false)) (omega (arith, m, w.if-extent-middle.false)) w.parted-is
+      | else-middle-extent+else-extent-middle w ↦ put_here c.args.low c.args.high c.args.extent v new c.requires.within free o.placed (omega (arith, m, w.if-middle-extent.false)) (omega (arith, m, w.if-extent-middle.false)) w.of-parted.result w.of-parted.ensures w.parted-is
     ] in
     put_in.list ∙ sym (ap (put nat_cmp c.args.extent.start c.args.extent.units) o.full)
 
@@ -79,6 +81,28 @@ returns-after-middle-extent-clause-placed t c =
           (subst (λ (n : ℕ). IsPlaced (n + 1) c.args.high w.insert.new.self) m w.insert.ensures.placed)
       | else-middle-extent+then-extent-middle+in_ok-insert-in-Parted-2 w ↦ put_left c.args.low c.args.high c.args.extent v new c.requires.within free o.placed (omega (arith, m, w.if-extent-middle.true)) w.insert-then-extent-middle.new.self w.parted-is w.in_ok-insert-in-Parted-2.ensures.ok
           (subst (λ (n : ℕ). IsPlaced c.args.low n w.insert-then-extent-middle.new.self) m w.insert-then-extent-middle.ensures.placed)
-      | else-middle-extent+else-extent-middle w ↦ put_here c.args.low c.args.high c.args.extent v new c.requires.within free o.placed (omega (arith, m, w.if-middle-extent.false)) (omega (arith, m, w.if-extent-middle.false)) w.parted-is
+      | else-middle-extent+else-extent-middle w ↦ put_here c.args.low c.args.high c.args.extent v new c.requires.within free o.placed (omega (arith, m, w.if-middle-extent.false)) (omega (arith, m, w.if-extent-middle.false)) w.of-parted.result w.of-parted.ensures w.parted-is
     ] in
     put_in.placed
+
+pub returns-after-middle-extent-clause-spanned : goal.returns-after-middle-extent-clause-spanned
+returns-after-middle-extent-clause-spanned t c =
+    let v = c.deref_mut-parted.result.now in
+    let new = c.if-middle-extent.parted in
+    let o = changing c.args.low c.args.high c.args.self.now _ v _ c.in-Parted.is c.deref_mut-parted.ensures.value refl (λ p. p) (λ s. s) c.requires.placed c.requires.spanned in
+    let m : c.middle_of-middle.result ≡ middle_unit c.args.low c.args.high = c.middle_of-middle.ensures in
+    let free = subst (MissesAll c.args.extent) o.full c.requires.free in
+    let put_in : PutIn c.args.low c.args.high c.args.extent v new = elim c.if-middle-extent.branch [
+      | then-middle-extent+in_ok-insert-in-Parted w ↦ put_right c.args.low c.args.high c.args.extent v new c.requires.within free o.placed (omega (arith, m, w.if-middle-extent.true)) w.insert.new.self w.parted-is w.in_ok-insert-in-Parted.ensures.ok
+          (subst (λ (n : ℕ). IsPlaced (n + 1) c.args.high w.insert.new.self) m w.insert.ensures.placed)
+      | else-middle-extent+then-extent-middle+in_ok-insert-in-Parted-2 w ↦ put_left c.args.low c.args.high c.args.extent v new c.requires.within free o.placed (omega (arith, m, w.if-extent-middle.true)) w.insert-then-extent-middle.new.self w.parted-is w.in_ok-insert-in-Parted-2.ensures.ok
+          (subst (λ (n : ℕ). IsPlaced c.args.low n w.insert-then-extent-middle.new.self) m w.insert-then-extent-middle.ensures.placed)
+      | else-middle-extent+else-extent-middle w ↦ put_here c.args.low c.args.high c.args.extent v new c.requires.within free o.placed (omega (arith, m, w.if-middle-extent.false)) (omega (arith, m, w.if-extent-middle.false)) w.of-parted.result w.of-parted.ensures w.parted-is
+    ] in
+    let spans : AreSpanned new.left × AreSpanned new.right = elim c.if-middle-extent.branch [
+      | then-middle-extent+in_ok-insert-in-Parted w ↦ subst (λ (p : PartedArea). AreSpanned p.left × AreSpanned p.right) (sym w.parted-is) (o.spans.1, w.insert.ensures.spanned)
+      | else-middle-extent+then-extent-middle+in_ok-insert-in-Parted-2 w ↦ subst (λ (p : PartedArea). AreSpanned p.left × AreSpanned p.right) (sym w.parted-is) (w.insert-then-extent-middle.ensures.spanned, o.spans.2)
+      | else-middle-extent+else-extent-middle w ↦ subst (λ (p : PartedArea). AreSpanned p.left × AreSpanned p.right) (sym w.parted-is) (o.spans.1, o.spans.2)
+    ] in
+    let two : 2 ≤ length (parts_in new) = omega (arith, o.spans.3, put_no_fewer c.args.extent.start c.args.extent.units (parts_in v), ap length put_in.list) in
+    (c.span_of_parts-parted.ensures, spans.0, spans.1, two)

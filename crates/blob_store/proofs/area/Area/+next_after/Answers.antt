@@ -6,12 +6,12 @@ use Rattle.blob_store.proofs.Runs.{in_order_weaker, in_order_front, in_order_bac
 use Rattle.blob_store.proofs.Spanned.{next_quits, next_front, next_back}
 use Rattle.blob_store.proofs.area.Area.+next_after.Goals as goal
 
-pub returns-then-span-at : goal.returns-then-span-at
-returns-then-span-at t c =
+pub returns-then-parted-at : goal.returns-then-parted-at
+returns-then-parted-at t c =
     let v = c.deref-parted.result.now in
     let o = opened c.args.self.now _ v _ c.in-Parted.is c.deref-parted.ensures refl (λ s. s) refl c.requires.spanned in
     let order : AreInOrder 0 (2 ^ 51) (parts_in v) = subst (AreInOrder 0 (2 ^ 51)) o.full c.requires.ordered in
-    sym (ap (next_after c.args.at) o.full ∙ next_quits c.args.at 0 (2 ^ 51) (parts_in v) c.in_ok-span.span (sym o.spans.0 ∙ c.in_ok-span.was) c.if-span-at.true order)
+    sym (ap (next_after c.args.at) o.full ∙ next_quits c.args.at 0 (2 ^ 51) (parts_in v) v.span (sym o.spans.0) c.if-parted-at.true order)
 
 pub next_after-requires : goal.next_after-requires
 next_after-requires t c =
@@ -28,8 +28,8 @@ returns-in-Some t c =
     let o = opened c.args.self.now _ v _ c.in-Parted.is c.deref-parted.ensures refl (λ s. s) refl c.requires.spanned in
     sym (ap (next_after c.args.at) o.full ∙ next_front c.args.at c.in-Some.extent (extents_in v.left) (listed_held v.held ++ extents_in v.right) (sym c.in-Some.ensures))
 
-pub next_held-requires : goal.next_held-requires
-next_held-requires t c =
+pub next_held-requires-2 : goal.next_held-requires-2
+next_held-requires-2 t c =
     let v = c.deref-parted.result.now in
     let o = opened c.args.self.now _ v _ c.in-Parted.is c.deref-parted.ensures refl (λ s. s) refl c.requires.spanned in
     let order : AreInOrder 0 (2 ^ 51) (parts_in v) = subst (AreInOrder 0 (2 ^ 51)) o.full c.requires.ordered in
@@ -41,7 +41,7 @@ pub returns-in-Some-next_held : goal.returns-in-Some-next_held
 returns-in-Some-next_held t c =
     let v = c.deref-parted.result.now in
     let o = opened c.args.self.now _ v _ c.in-Parted.is c.deref-parted.ensures refl (λ s. s) refl c.requires.spanned in
-    sym (ap (next_after c.args.at) o.full ∙ next_back c.args.at (extents_in v.left) (listed_held v.held ++ extents_in v.right) (sym c.in_default-next_after.ensures)
+    sym (ap (next_after c.args.at) o.full ∙ next_back c.args.at (extents_in v.left) (listed_held v.held ++ extents_in v.right) (sym c.in_default.ensures)
     ∙ next_front c.args.at c.in-Some-next_held.extent (listed_held v.held) (extents_in v.right) (sym c.in-Some-next_held.ensures))
 
 pub next_after-requires-2 : goal.next_after-requires-2
@@ -64,5 +64,5 @@ pub returns : goal.returns
 returns t c =
     let v = c.deref-parted.result.now in
     let o = opened c.args.self.now _ v _ c.in-Parted.is c.deref-parted.ensures refl (λ s. s) refl c.requires.spanned in
-    c.next_after-2.ensures ∙ sym (ap (next_after c.args.at) o.full ∙ next_back c.args.at (extents_in v.left) (listed_held v.held ++ extents_in v.right) (sym c.in_default-next_after.ensures)
+    c.next_after-2.ensures ∙ sym (ap (next_after c.args.at) o.full ∙ next_back c.args.at (extents_in v.left) (listed_held v.held ++ extents_in v.right) (sym c.in_default.ensures)
     ∙ next_back c.args.at (listed_held v.held) (extents_in v.right) (sym c.in_default-next_held.ensures))

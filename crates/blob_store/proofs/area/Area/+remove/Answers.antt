@@ -1,11 +1,10 @@
-use Rattle.std.proofs.Common.{◌≡◌, ◌<◌, ◌-◌, ◌+◌, ◌^◌, ℕ, Some, refl, sym, ap, subst, ◌∙◌, arith}
+use Rattle.std.proofs.Common.{◌≡◌, ◌<◌, ◌≤◌, ◌-◌, ◌+◌, ◌^◌, ℕ, length, Some, refl, sym, ap, subst, ◌∙◌, arith}
 use Rattle.std.specs.Ordering.{nat_cmp}
 use Rattle.std.specs.FinMap.{find}
 use Rattle.blob_store.specs.inside.Areas.{extents_in, middle_unit, IsPlaced}
-use Rattle.blob_store.specs.inside.Runs.{without}
+use Rattle.blob_store.specs.inside.Runs.{AreInOrder, without}
 use Rattle.blob_store.proofs.Runs.{in_order_weaker}
-use Rattle.blob_store.proofs.Edits.{found_within}
-use Rattle.blob_store.proofs.Spanned.{no_span}
+use Rattle.blob_store.proofs.Edits.{found_within, without_leaves}
 use Rattle.blob_store.proofs.Parts.{parts_in}
 use Rattle.blob_store.proofs.Placed.{in_order_of, changing, TakenOut, found_right, found_left, taken_right, taken_left, taken_here}
 use Rattle.blob_store.proofs.area.Area.+remove.Goals as goal
@@ -42,8 +41,24 @@ remove-requires-then-extent-middle t c =
     let found = found_left c.args.low c.args.high c.args.extent.start c.args.extent.units v o.placed there (omega (arith, m, c.if-extent-middle.true)) in
     (smaller, (placed, (o.spans.1, (found, omega (arith, m, c.requires.bound, ends.0, ends.1, ends.2)))))
 
-pub span_of_parts-requires-clause-ordered : goal.span_of_parts-requires-clause-ordered
-span_of_parts-requires-clause-ordered t c =
+pub span_of_parts-parted-requires-clause-some : goal.span_of_parts-parted-requires-clause-some
+span_of_parts-parted-requires-clause-some t c =
+    let v = c.deref_mut-parted.result.now in
+    let new = c.if-middle-extent.parted in
+    let o = changing c.args.low c.args.high c.args.self.now _ v _ c.in-Parted.is c.deref_mut-parted.ensures.value refl (λ p. p) (λ s. s) c.requires.placed c.requires.spanned in
+    let m : c.middle_of-middle.result ≡ middle_unit c.args.low c.args.high = c.middle_of-middle.ensures in
+    let there : find nat_cmp c.args.extent.start (parts_in v) ≡ Some c.args.extent.units = sym (ap (find nat_cmp c.args.extent.start) o.full) ∙ c.requires.there in
+    let taken : TakenOut c.args.low c.args.high c.args.extent.start v new = elim c.if-middle-extent.branch [
+      | then-middle-extent w ↦ taken_right c.args.low c.args.high c.args.extent.start c.args.extent.units v o.placed there (omega (arith, m, w.if-middle-extent.true)) new w.remove.new.self w.parted-is w.remove.ensures.gone
+          (subst (λ (n : ℕ). IsPlaced (n + 1) c.args.high w.remove.new.self) m w.remove.ensures.placed)
+      | else-middle-extent+then-extent-middle w ↦ taken_left c.args.low c.args.high c.args.extent.start c.args.extent.units v o.placed there (omega (arith, m, w.if-extent-middle.true)) new w.remove-then-extent-middle.new.self w.parted-is w.remove-then-extent-middle.ensures.gone
+          (subst (λ (n : ℕ). IsPlaced c.args.low n w.remove-then-extent-middle.new.self) m w.remove-then-extent-middle.ensures.placed)
+      | else-middle-extent+else-extent-middle w ↦ taken_here c.args.low c.args.high c.args.extent.start c.args.extent.units v o.placed there (omega (arith, m, w.if-middle-extent.false)) (omega (arith, m, w.if-extent-middle.false)) new w.parted-is
+    ] in
+    subst (λ es. 1 ≤ length es) (sym taken.list) (without_leaves c.args.extent.start c.args.low c.args.high (parts_in v) o.placed.0 o.spans.3)
+
+pub span_of_parts-parted-requires-clause-ordered : goal.span_of_parts-parted-requires-clause-ordered
+span_of_parts-parted-requires-clause-ordered t c =
     let v = c.deref_mut-parted.result.now in
     let new = c.if-middle-extent.parted in
     let o = changing c.args.low c.args.high c.args.self.now _ v _ c.in-Parted.is c.deref_mut-parted.ensures.value refl (λ p. p) (λ s. s) c.requires.placed c.requires.spanned in
@@ -72,7 +87,7 @@ returns-in-Some-clause-gone t c =
           (subst (λ (n : ℕ). IsPlaced c.args.low n w.remove-then-extent-middle.new.self) m w.remove-then-extent-middle.ensures.placed)
       | else-middle-extent+else-extent-middle w ↦ taken_here c.args.low c.args.high c.args.extent.start c.args.extent.units v o.placed there (omega (arith, m, w.if-middle-extent.false)) (omega (arith, m, w.if-extent-middle.false)) new w.parted-is
     ] in
-    taken.list ∙ sym (ap (without c.args.extent.start) o.full)
+    c.of.ensures.one ∙ sym c.in-Some.ensures.one ∙ taken.list ∙ sym (ap (without c.args.extent.start) o.full)
 
 pub returns-in-Some-clause-placed : goal.returns-in-Some-clause-placed
 returns-in-Some-clause-placed t c =
@@ -88,10 +103,11 @@ returns-in-Some-clause-placed t c =
           (subst (λ (n : ℕ). IsPlaced c.args.low n w.remove-then-extent-middle.new.self) m w.remove-then-extent-middle.ensures.placed)
       | else-middle-extent+else-extent-middle w ↦ taken_here c.args.low c.args.high c.args.extent.start c.args.extent.units v o.placed there (omega (arith, m, w.if-middle-extent.false)) (omega (arith, m, w.if-extent-middle.false)) new w.parted-is
     ] in
-    taken.placed
+    let only = subst (AreInOrder c.args.low c.args.high) c.in-Some.ensures.one taken.placed.0 in
+    c.of.ensures.placed c.args.low c.args.high (record { above = only.0; some = only.1; below = only.2 })
 
-pub returns-in-None-clause-gone : goal.returns-in-None-clause-gone
-returns-in-None-clause-gone t c =
+pub returns-clause-gone : goal.returns-clause-gone
+returns-clause-gone t c =
     let v = c.deref_mut-parted.result.now in
     let new = c.if-middle-extent.parted in
     let o = changing c.args.low c.args.high c.args.self.now _ v _ c.in-Parted.is c.deref_mut-parted.ensures.value refl (λ p. p) (λ s. s) c.requires.placed c.requires.spanned in
@@ -104,4 +120,20 @@ returns-in-None-clause-gone t c =
           (subst (λ (n : ℕ). IsPlaced c.args.low n w.remove-then-extent-middle.new.self) m w.remove-then-extent-middle.ensures.placed)
       | else-middle-extent+else-extent-middle w ↦ taken_here c.args.low c.args.high c.args.extent.start c.args.extent.units v o.placed there (omega (arith, m, w.if-middle-extent.false)) (omega (arith, m, w.if-extent-middle.false)) new w.parted-is
     ] in
-    sym (no_span (parts_in new) (sym c.in-None.ensures)) ∙ taken.list ∙ sym (ap (without c.args.extent.start) o.full)
+    taken.list ∙ sym (ap (without c.args.extent.start) o.full)
+
+pub returns-clause-placed : goal.returns-clause-placed
+returns-clause-placed t c =
+    let v = c.deref_mut-parted.result.now in
+    let new = c.if-middle-extent.parted in
+    let o = changing c.args.low c.args.high c.args.self.now _ v _ c.in-Parted.is c.deref_mut-parted.ensures.value refl (λ p. p) (λ s. s) c.requires.placed c.requires.spanned in
+    let m : c.middle_of-middle.result ≡ middle_unit c.args.low c.args.high = c.middle_of-middle.ensures in
+    let there : find nat_cmp c.args.extent.start (parts_in v) ≡ Some c.args.extent.units = sym (ap (find nat_cmp c.args.extent.start) o.full) ∙ c.requires.there in
+    let taken : TakenOut c.args.low c.args.high c.args.extent.start v new = elim c.if-middle-extent.branch [
+      | then-middle-extent w ↦ taken_right c.args.low c.args.high c.args.extent.start c.args.extent.units v o.placed there (omega (arith, m, w.if-middle-extent.true)) new w.remove.new.self w.parted-is w.remove.ensures.gone
+          (subst (λ (n : ℕ). IsPlaced (n + 1) c.args.high w.remove.new.self) m w.remove.ensures.placed)
+      | else-middle-extent+then-extent-middle w ↦ taken_left c.args.low c.args.high c.args.extent.start c.args.extent.units v o.placed there (omega (arith, m, w.if-extent-middle.true)) new w.remove-then-extent-middle.new.self w.parted-is w.remove-then-extent-middle.ensures.gone
+          (subst (λ (n : ℕ). IsPlaced c.args.low n w.remove-then-extent-middle.new.self) m w.remove-then-extent-middle.ensures.placed)
+      | else-middle-extent+else-extent-middle w ↦ taken_here c.args.low c.args.high c.args.extent.start c.args.extent.units v o.placed there (omega (arith, m, w.if-middle-extent.false)) (omega (arith, m, w.if-extent-middle.false)) new w.parted-is
+    ] in
+    taken.placed

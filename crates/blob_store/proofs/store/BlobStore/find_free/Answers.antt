@@ -8,6 +8,11 @@ use Rattle.blob_store.proofs.Runs.{in_order_weaker}
 use Rattle.blob_store.proofs.Claimed.{run_start, run_start_is, RunFound, run_found, first_run, no_run}
 use Rattle.blob_store.proofs.store.BlobStore.find_free.Goals as goal
 
+pub end_after-end-requires-clause-ordered : goal.end_after-end-requires-clause-ordered
+end_after-end-requires-clause-ordered c =
+    let inside = c.self.inside in
+    in_order_weaker 0 inside.units 0 (2 ^ 51) (extents_in inside.area) (omega arith) c.self.invariant.0 (in_order_of 0 inside.units inside.area c.self.invariant.1)
+
 pub first_gap-requires-clause-ordered : goal.first_gap-requires-clause-ordered
 first_gap-requires-clause-ordered c =
     let inside = c.self.inside in
