@@ -1,14 +1,14 @@
 //! Hashes bytes in memory by one of the ways of this repository, and prints the hash; `bench/hash` runs it and reads
 //! the times that it prints.
 //!
-//! Words: the way (`plain`, `pieces`, `lanes` or `intake`), how many bytes, and how often. With no third word, and so
+//! Words: the way (`plain`, `pieces`, `lanes`, `once` or `intake`), how many bytes, and how often. With no third word, and so
 //! with none at all, no time is printed.
 #![tactic(auto)]
 
 ghost use Rattle.std.specs.Prelude.{◌<◌};
 
 use blake3_hash::{Hasher, hash};
-use blake3_lanes::WideHasher;
+use blake3_lanes::{WideHasher, hash as lanes_hash};
 use io_hash::{Intake, IntakeFault};
 use std::alloc::{AllocError, Global};
 use std::time::Instant;
@@ -21,6 +21,7 @@ enum Way {
     Plain,
     Pieces,
     Lanes,
+    Once,
     Intake,
 }
 
@@ -28,6 +29,7 @@ fn way_of(word: &str) -> Way {
     match word {
         "plain" => Way::Plain,
         "pieces" => Way::Pieces,
+        "once" => Way::Once,
         "intake" => Way::Intake,
         _ => Way::Lanes,
     }
@@ -37,21 +39,29 @@ fn way_of(word: &str) -> Way {
 fn hash_by(alloc: Global, way: Way, bytes: &[u8]) -> u64 {
     match way {
         Way::Plain => first_part(&hash(bytes)),
-        Way::Pieces => {
-            let mut hasher = Hasher::new();
-            hasher.update(bytes);
-            first_part(&hasher.finish())
-        }
-        Way::Lanes => {
-            let mut hasher = WideHasher::new();
-            hasher.update(bytes);
-            first_part(&hasher.finish())
-        }
+        Way::Pieces => first_part(&by_pieces(bytes)),
+        Way::Lanes => first_part(&by_lanes(bytes)),
+        Way::Once => first_part(&lanes_hash(bytes)),
         Way::Intake => match taken(alloc, bytes) {
             Ok(intake) => first_part(&intake.finish().hash().0),
             Err(_) => 0,
         },
     }
+}
+
+// Not inlined, like the next one, or each way would pay for the locals of all.
+#[inline(never)]
+fn by_pieces(bytes: &[u8]) -> [u8; 32] {
+    let mut hasher = Hasher::new();
+    hasher.update(bytes);
+    hasher.finish()
+}
+
+#[inline(never)]
+fn by_lanes(bytes: &[u8]) -> [u8; 32] {
+    let mut hasher = WideHasher::new();
+    hasher.update(bytes);
+    hasher.finish()
 }
 
 fn taken(alloc: Global, bytes: &[u8]) -> Result<Intake, IntakeFault> {

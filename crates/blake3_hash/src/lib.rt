@@ -6,5 +6,5 @@ mod hasher;
 mod spine;
 
 pub use hasher::Hasher;
-pub use spine::{Spine, hash};
+pub use spine::{Parents, Spine, hash};
 pub use tree_hash::{chunk_value, compress, parent_value};

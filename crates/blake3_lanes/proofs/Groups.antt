@@ -1,6 +1,8 @@
 -- Eight chunk values are eight leaves more.
-use Rattle.std.proofs.Common.{◌≡◌, ℕ, zero, suc, ◌+◌, ◌*◌, ◌<◌, List, [], ◌∷◌, ◌++◌, length, take, drop, slice_index_or, refl, sym, ap, ◌∙◌, arith, add-zero}
-use Rattle.std.proofs.lemmas.List.{drop-append-le, drop-drop, take_all}
+use Rattle.std.proofs.Common.{◌≡◌, ℕ, zero, suc, ◌+◌, ◌-◌, ◌*◌, ◌<◌, ◌≤◌, List, [], ◌∷◌, ◌++◌, length, take, drop, slice_index_or, refl, sym, ap, ◌∙◌, inl, inr, arith, add-zero}
+use Rattle.std.proofs.lemmas.List.{drop-append-le, drop-drop, take-append-le, take-take, take_all}
+use Rattle.std.proofs.lemmas.Bool.{cases_lt}
+use Rattle.std.proofs.Math.Seq.{take-append-add}
 use Rattle.tree_hash.specs.TreeHash.{chunk_value}
 use Rattle.blake3_hash.specs.Spine.{leaves}
 use Rattle.blake3_hash.proofs.Leaves.{length-leaves, take-leaves}
@@ -36,6 +38,32 @@ leaves_add (suc i) k b n =
 -- k leaves lie in the first k chunks
 pub leaves_within : (k : ℕ) (b : List ℕ) (n : ℕ) → leaves k (take (1024 * k) b) n ≡ leaves k b n
 leaves_within k b n = sym (take-leaves k k b n (omega arith)) ∙ take_all k (leaves k b n) (omega (arith, length-leaves k b n))
+
+-- of the first bytes
+pub leaves_front : (k len : ℕ) (b : List ℕ) (n : ℕ) → 1024 * k ≤ len → leaves k (take len b) n ≡ leaves k b n
+leaves_front k len b n h =
+    sym (leaves_within k (take len b) n)
+    ∙ ap (λ (r : List ℕ). leaves k r n) (take-take (1024 * k) len b h)
+    ∙ leaves_within k b n
+
+-- the first of some leaves
+pub first_leaves : (k i : ℕ) (b : List ℕ) (n : ℕ) (rows : List (List ℕ)) → k ≤ i → rows ≡ leaves i b n → take k rows ≡ leaves k b n
+first_leaves k i b n rows h e = rw e (take-leaves k i b n h ∙ leaves_within k b n)
+
+-- the first k of four values and four more
+pub halves_leaves : (k i j : ℕ) (front back : List (List ℕ)) (b : List ℕ) (n : ℕ) → length front ≡ 4 → (k ≤ 4 → i ≡ k) × (4 < k → i ≡ 4) → j ≡ k - 4
+    → take i front ≡ leaves i (take 4096 b) n → take j back ≡ leaves j (drop 4096 b) (n + 4) → take k (front ++ back) ≡ leaves k b n
+halves_leaves k i j front back b n len ei ej hf hb = elim (cases_lt 4 k) [
+  | inl lt ↦
+      let four : i ≡ 4 = ei.1 lt in
+      let more : k ≡ 4 + j = omega arith in
+      let f : front ≡ leaves 4 b n = sym (take_all 4 front (omega arith)) ∙ (rw four at hf) ∙ leaves_front 4 4096 b n (omega arith) in
+      let both : take (4 + j) (front ++ back) ≡ front ++ take j back = rw len at (take-append-add front back j) in
+      rw more (both ∙ rw (f, hb) (sym (leaves_add 4 j b n)))
+  | inr le ↦
+      let same : i ≡ k = ei.0 le in
+      take-append-le k front back (omega arith) ∙ (rw same at hf) ∙ leaves_front k 4096 b n (omega arith)
+]
 
 -- four values and four more
 pub eight_leaves : (front back : List (List ℕ)) (b : List ℕ) (n : ℕ) → length front ≡ 4 → length back ≡ 4

@@ -132,3 +132,13 @@ chunk_last b o n h =
     let block : drop 960 (take 1024 (drop o b)) ≡ take 64 (drop (o + 960) b) =
     sym (take_all 64 (drop 960 (take 1024 (drop o b))) (omega arith)) ∙ block_of b o 960 (omega arith) in
     rw (len, rest, block, append-nil) refl
+
+-- the words of lane j of eight vectors, and of eight more
+pub lanes_beside : (j : ℕ) (a b : List (List ℕ)) (x y : List ℕ) → length a ≡ 8 → length b ≡ 8 → lane j a ≡ x → lane j b ≡ y
+    → slice_index (slice_index_or a 0 []) j ∷ slice_index (slice_index_or a 1 []) j ∷ slice_index (slice_index_or a 2 []) j
+    ∷ slice_index (slice_index_or a 3 []) j ∷ slice_index (slice_index_or a 4 []) j ∷ slice_index (slice_index_or a 5 []) j
+    ∷ slice_index (slice_index_or a 6 []) j ∷ slice_index (slice_index_or a 7 []) j
+    ∷ slice_index (slice_index_or b 0 []) j ∷ slice_index (slice_index_or b 1 []) j ∷ slice_index (slice_index_or b 2 []) j
+    ∷ slice_index (slice_index_or b 3 []) j ∷ slice_index (slice_index_or b 4 []) j ∷ slice_index (slice_index_or b 5 []) j
+    ∷ slice_index (slice_index_or b 6 []) j ∷ slice_index (slice_index_or b 7 []) j ∷ [] ≡ x ++ y
+lanes_beside j a b x y la lb ea eb = rw (← ea, ← eb, ← lane_eight j a la, ← lane_eight j b lb) refl

@@ -1,7 +1,7 @@
 // The compression of one block (BLAKE3 specification, section 2.2): a row of the state, four words, is a vector, so that
 // its four columns are mixed side by side.
 ghost use Rattle.std.specs.Prelude.{◌≡◌, ℕ, ◌+◌, ◌<◌, ◌%◌, [], ◌∷◌, length, slice_index};
-ghost use Rattle.tree_hash.specs.TreeHash.{block_words, compress, folded, iv, mix, permute, round, start_state};
+ghost use Rattle.tree_hash.specs.TreeHash.{block_words, compress, compress_words, folded, iv, mix, permute, round, start_state};
 ghost use Rattle.blake3_lanes.specs.inside.Lanes.{lane};
 ghost use Rattle.blake3_lanes.specs.inside.Rows.{diagonal, four_rows, message_of, two_rows};
 
@@ -71,7 +71,7 @@ fn round(hidden: &Hidden, v: &[u32x4; 4], m: &[u32x4; 4]) -> [u32x4; 4]
 
 // The rows of a message in the order in which a round mixes their words in.
 #[inline(always)]
-fn in_order(a: u32x4, b: u32x4, c: u32x4, d: u32x4) -> [u32x4; 4]
+pub(crate) fn in_order(a: u32x4, b: u32x4, c: u32x4, d: u32x4) -> [u32x4; 4]
     ensures { message_of result ≡ four_rows (a ∷ b ∷ c ∷ d ∷ []) }
 {
     [
@@ -132,22 +132,20 @@ fn folded(v: &[u32x4; 4]) -> [u32x4; 2]
     [xor(v[0], v[2]), xor(v[1], v[3])]
 }
 
-// The compression of a block from the value `h` on.
+// The compression of a message, whose words have the order in which a round mixes them in, from the value `h` on.
 #[inline(always)]
-pub(crate) fn compress(
+pub(crate) fn compress_message(
     hidden: &Hidden,
     h: &[u32x4; 2],
-    block: &[u8],
+    m: &[u32x4; 4],
     number: u64,
     len: u32,
     flags: u32,
 ) -> [u32x4; 2]
-    requires { length block.now ≡ 64 }
-    ensures { two_rows result ≡ compress (two_rows h.now) block.now number len flags }
+    ensures { two_rows result ≡ compress_words (two_rows h.now) (message_of m.now) number len flags }
 {
     let v = start_state(h, number, len, flags);
-    let m = message(block);
-    let v = round(hidden, &v, &m);
+    let v = round(hidden, &v, m);
     let m = permute(m[0], m[1], m[2], m[3]);
     let v = round(hidden, &v, &m);
     let m = permute(m[0], m[1], m[2], m[3]);
@@ -161,6 +159,22 @@ pub(crate) fn compress(
     let m = permute(m[0], m[1], m[2], m[3]);
     let v = round(hidden, &v, &m);
     folded(&v)
+}
+
+// The compression of a block from the value `h` on.
+#[inline(always)]
+pub(crate) fn compress(
+    hidden: &Hidden,
+    h: &[u32x4; 2],
+    block: &[u8],
+    number: u64,
+    len: u32,
+    flags: u32,
+) -> [u32x4; 2]
+    requires { length block.now ≡ 64 }
+    ensures { two_rows result ≡ compress (two_rows h.now) block.now number len flags }
+{
+    compress_message(hidden, h, &message(block), number, len, flags)
 }
 
 // The words IV.

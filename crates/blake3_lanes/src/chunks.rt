@@ -94,7 +94,7 @@ pub(crate) fn start_flag(k: usize) -> u32
 
 // The values of four chunks; the four chunks in `next` are read meanwhile, so that they are in the cache when their
 // turn comes.
-fn chunks4(hidden: &Hidden, input: &[u8], first: u64, next: &[u8]) -> [[u32; 8]; 4]
+pub(crate) fn chunks4(hidden: &Hidden, input: &[u8], first: u64, next: &[u8]) -> [[u32; 8]; 4]
     requires len { length input.now ≡ 4096 }
     requires first { first ≤ 2 ^ 54 - 4 }
     requires next { length next.now ≡ 4096 }

@@ -4,9 +4,11 @@ ghost use Rattle.tree_hash.specs.TreeHash.{eight, parent_value};
 ghost use Rattle.blake3_hash.specs.Spine.{joined};
 ghost use Rattle.blake3_lanes.specs.inside.Lanes.{lane};
 
+use crate::eight::parents::parents8 as in_eights;
 use crate::kernel::{compress, rows, start_values};
 use crate::vectors::{Hidden, splat};
-use blake3_hash::parent_value;
+use crate::width::WIDTH;
+use blake3_hash::Parents;
 use std::simd::prelude::*;
 
 // Word i of each of four values.
@@ -61,14 +63,29 @@ fn parents4(hidden: &Hidden, left: &[[u32; 8]; 4], right: &[[u32; 8]; 4]) -> [[u
 pub fn parents8(left: &[[u32; 8]; 8], right: &[[u32; 8]; 8]) -> [[u32; 8]; 8]
     ensures { (k : ℕ) → k < 8 → slice_index_or result k [] ≡ parent_value (slice_index_or left.now k []) (slice_index_or right.now k []) 0 }
 {
-    let hidden = Hidden::new();
+    parents8_with(&Hidden::new(), left, right)
+}
+
+fn parents8_with(hidden: &Hidden, left: &[[u32; 8]; 8], right: &[[u32; 8]; 8]) -> [[u32; 8]; 8]
+    ensures { (k : ℕ) → k < 8 → slice_index_or result k [] ≡ parent_value (slice_index_or left.now k []) (slice_index_or right.now k []) 0 }
+{
+    if WIDTH == 8 {
+        in_eights(left, right)
+    } else {
+        in_fours(hidden, left, right)
+    }
+}
+
+fn in_fours(hidden: &Hidden, left: &[[u32; 8]; 8], right: &[[u32; 8]; 8]) -> [[u32; 8]; 8]
+    ensures { (k : ℕ) → k < 8 → slice_index_or result k [] ≡ parent_value (slice_index_or left.now k []) (slice_index_or right.now k []) 0 }
+{
     let front = parents4(
-        &hidden,
+        hidden,
         &[left[0], left[1], left[2], left[3]],
         &[right[0], right[1], right[2], right[3]],
     );
     let back = parents4(
-        &hidden,
+        hidden,
         &[left[4], left[5], left[6], left[7]],
         &[right[4], right[5], right[6], right[7]],
     );
@@ -77,31 +94,69 @@ pub fn parents8(left: &[[u32; 8]; 8], right: &[[u32; 8]; 8]) -> [[u32; 8]; 8]
     ]
 }
 
-// The values of the two halves of a tree over eight values, and of a parent that waited for a free lane.
+// Two trees over eight values, each of which waits for free lanes: one is joined to quarters, and one to halves.
 #[derive(Clone, Copy)]
-pub(crate) struct Halves {
+pub(crate) struct Waiting {
+    pub(crate) quarters: [[u32; 8]; 4],
     pub(crate) halves: [[u32; 8]; 2],
-    pub(crate) waited: [u32; 8],
 }
 
-// The halves of the tree over eight values, and beside them the parent of the two values in `before`.
-pub(crate) fn halves8(hidden: &Hidden, values: &[[u32; 8]; 8], before: &[[u32; 8]; 2]) -> Halves
-    ensures halves { parent_value (slice_index_or result.halves 0 []) (slice_index_or result.halves 1 []) 0 ≡ joined 3 values.now 0 }
-    ensures waited { result.waited ≡ parent_value (slice_index_or before.now 0 []) (slice_index_or before.now 1 []) 0 }
+// A tree that is joined to halves, and the value of one that was.
+#[derive(Clone, Copy)]
+pub(crate) struct Halved {
+    pub(crate) halves: [[u32; 8]; 2],
+    pub(crate) whole: [u32; 8],
+}
+
+// The trees that wait, and the value of one that waited.
+#[derive(Clone, Copy)]
+pub(crate) struct Turn {
+    pub(crate) waiting: Waiting,
+    pub(crate) whole: [u32; 8],
+}
+
+// The tree over eight values, joined to quarters.
+pub(crate) fn quarters8(hidden: &Hidden, values: &[[u32; 8]; 8]) -> [[u32; 8]; 4]
+    ensures { joined 2 result 0 ≡ joined 3 values.now 0 }
 {
-    let low = parents4(
+    parents4(
         hidden,
         &[values[0], values[2], values[4], values[6]],
         &[values[1], values[3], values[5], values[7]],
-    );
-    let high = parents4(
+    )
+}
+
+// Joins both trees that wait by one level.
+pub(crate) fn join_waiting(hidden: &Hidden, waiting: &Waiting) -> Halved
+    ensures halves { joined 1 result.halves 0 ≡ joined 2 waiting.now.quarters 0 }
+    ensures whole { result.whole ≡ joined 1 waiting.now.halves 0 }
+{
+    let (q, h) = (&waiting.quarters, &waiting.halves);
+    let rows = parents4(hidden, &[q[0], q[2], h[0], h[0]], &[q[1], q[3], h[1], h[1]]);
+    Halved {
+        halves: [rows[0], rows[1]],
+        whole: rows[2],
+    }
+}
+
+// Joins the tree over eight values and both that wait by one level.
+pub(crate) fn join_with(hidden: &Hidden, v: &[[u32; 8]; 8], waiting: &Waiting) -> Turn
+    ensures quarters { joined 2 result.waiting.quarters 0 ≡ joined 3 v.now 0 }
+    ensures halves { joined 1 result.waiting.halves 0 ≡ joined 2 waiting.now.quarters 0 }
+    ensures whole { result.whole ≡ joined 1 waiting.now.halves 0 }
+{
+    let (q, h) = (&waiting.quarters, &waiting.halves);
+    let rows = parents8_with(
         hidden,
-        &[low[0], low[2], before[0], before[0]],
-        &[low[1], low[3], before[1], before[1]],
+        &[v[0], v[2], v[4], v[6], q[0], q[2], h[0], h[0]],
+        &[v[1], v[3], v[5], v[7], q[1], q[3], h[1], h[1]],
     );
-    Halves {
-        halves: [high[0], high[1]],
-        waited: high[2],
+    Turn {
+        waiting: Waiting {
+            quarters: [rows[0], rows[1], rows[2], rows[3]],
+            halves: [rows[4], rows[5]],
+        },
+        whole: rows[6],
     }
 }
 
@@ -109,6 +164,17 @@ pub(crate) fn halves8(hidden: &Hidden, values: &[[u32; 8]; 8], before: &[[u32; 8
 pub(crate) fn subtree8(hidden: &Hidden, values: &[[u32; 8]; 8]) -> [u32; 8]
     ensures { result ≡ joined 3 values.now 0 }
 {
-    let halves = halves8(hidden, values, &[values[0], values[1]]).halves;
-    parent_value(&halves[0], &halves[1])
+    let quarters = quarters8(hidden, values);
+    let halves = join_waiting(hidden, &alone(quarters)).halves;
+    hidden.parent(&halves[0], &halves[1], 0)
+}
+
+// A tree that waits, joined to quarters, and none before it: the halves are of no tree.
+pub(crate) fn alone(quarters: [[u32; 8]; 4]) -> Waiting
+    ensures { result.quarters ≡ quarters }
+{
+    Waiting {
+        quarters,
+        halves: [quarters[0], quarters[1]],
+    }
 }

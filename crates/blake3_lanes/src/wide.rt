@@ -6,10 +6,11 @@ ghost use Rattle.blake3_hash.specs.Fed.{IsHeld};
 ghost use Rattle.blake3_lanes.specs.WideFed.{IsWideFed, wide_length};
 
 use crate::chunk::flagged_chunk;
-use crate::chunks::{chunks8, chunks8_before};
-use crate::parents::{halves8, subtree8};
+use crate::chunks::{chunks4, chunks8, chunks8_before};
+use crate::parents::{alone, join_waiting, join_with, quarters8, subtree8};
 use crate::vectors::Hidden;
-use blake3_hash::{Spine, parent_value};
+use crate::width::WIDTH;
+use blake3_hash::{Parents, Spine};
 use std::marker::Model;
 use tree_hash::bytes_of;
 
@@ -83,15 +84,88 @@ impl WideHasher {
         if self.chunks == 0 && self.used <= 1024 {
             return hash_of_chunk(&self.buffer[..self.used]);
         }
+        let hidden = Hidden::new();
+        let before = self.used.saturating_sub(1) / 1024;
+        let values = buffer_values(&hidden, &self.buffer, self.chunks, self.used);
         let mut spine = self.spine;
-        let whole = self.used.saturating_sub(1) / 1024;
-        push_front(
-            &mut spine,
-            &front_values(&self.buffer, self.chunks, whole),
-            whole,
-        );
-        spine.finish(&self.buffer[1024 * whole..self.used])
+        push_front(&hidden, &mut spine, &values, before);
+        spine.finish_by(&hidden, &values[before])
     }
+}
+
+/// The hash of the bytes. Of at most four chunks it is quicker than a hasher, whose buffer it doesn't need.
+pub fn hash(bytes: &[u8]) -> [u8; 32]
+    ensures { result ≡ blake3 bytes.now }
+{
+    if bytes.len() <= 1024 {
+        return hash_of_chunk(bytes);
+    }
+    if bytes.len() <= 4096 {
+        return hash_of_four(bytes);
+    }
+    hash_of_more(bytes)
+}
+
+// Never inlined, like the next two: where a function is, the memory of its locals is filled with zeros.
+#[inline(never)]
+fn hash_of_more(bytes: &[u8]) -> [u8; 32]
+    ensures { result ≡ blake3 bytes.now }
+{
+    let mut hasher = WideHasher::new();
+    hasher.update(bytes);
+    hasher.finish()
+}
+
+// The hash of two chunks to four.
+#[inline(never)]
+fn hash_of_four(bytes: &[u8]) -> [u8; 32]
+    requires more { 1024 < length bytes.now }
+    requires len { length bytes.now ≤ 4096 }
+    ensures { result ≡ blake3 bytes.now }
+{
+    let hidden = Hidden::new();
+    let before = (bytes.len() - 1) / 1024;
+    let values = four_values(&hidden, bytes);
+    let mut spine = Spine::new();
+    push_front(&hidden, &mut spine, &values, before);
+    spine.finish_by(&hidden, &values[before])
+}
+
+// The values of at most four chunks, of which the last one may be short.
+fn four_values(hidden: &Hidden, bytes: &[u8]) -> [[u32; 8]; 4]
+    requires some { 1 ≤ length bytes.now }
+    requires len { length bytes.now ≤ 4096 }
+    ensures { take ((length bytes.now - 1) / 1024 + 1) result ≡ leaves ((length bytes.now - 1) / 1024 + 1) bytes.now 0 }
+{
+    if bytes.len() == 4096 {
+        return chunks4(hidden, bytes, 0, bytes);
+    }
+    copied_values(hidden, bytes)
+}
+
+// The same over a copy, since lanes read four chunks.
+#[inline(never)]
+fn copied_values(hidden: &Hidden, bytes: &[u8]) -> [[u32; 8]; 4]
+    requires some { 1 ≤ length bytes.now }
+    requires len { length bytes.now < 4096 }
+    ensures { take ((length bytes.now - 1) / 1024 + 1) result ≡ leaves ((length bytes.now - 1) / 1024 + 1) bytes.now 0 }
+{
+    let whole = bytes.len() / 1024;
+    let mut values = first_of_four(hidden, &four_chunks(bytes), 0, whole);
+    if bytes.len() % 1024 > 0 {
+        values[whole] = flagged_chunk(hidden, &bytes[1024 * whole..], whole as u64, 0);
+    }
+    values
+}
+
+// The bytes, and zeros up to four chunks.
+fn four_chunks(bytes: &[u8]) -> [u8; 4096]
+    requires { length bytes.now ≤ 4096 }
+    ensures { (k n : ℕ) → 1024 * k ≤ length bytes.now → leaves k result n ≡ leaves k bytes.now n }
+{
+    let mut chunks = [0u8; 4096];
+    chunks[..bytes.len()].copy_from_slice(bytes);
+    chunks
 }
 
 // The hash of at most one chunk.
@@ -117,36 +191,65 @@ fn push_values(spine: &mut Spine, values: &[[u32; 8]; 8])
     ensures count { spine.new.count ≡ spine.old.count + 8 }
     ensures pushed { (xs : List (List ℕ)) → IsPushed spine.old xs → IsPushed spine.new (xs ++ values.now) }
 {
-    spine.push_subtree(&subtree8(&Hidden::new(), values), 3);
+    let hidden = Hidden::new();
+    spine.push_subtree_by(&hidden, &subtree8(&hidden, values), 3);
 }
 
-// The values of the first `whole` chunks of the buffer; what else it has is counted in where it is quicker.
-fn front_values(buffer: &[u8; 8192], number: u64, whole: usize) -> [[u32; 8]; 8]
-    requires whole { whole < 8 }
-    requires number { number + whole < 2 ^ 54 }
-    requires aligned { number % 8 ≡ 0 }
-    ensures { take whole result ≡ leaves whole buffer.now number }
+// The values of the first `whole` of four chunks: side by side, but of one alone.
+fn first_of_four(hidden: &Hidden, chunks: &[u8], number: u64, whole: usize) -> [[u32; 8]; 4]
+    requires len { length chunks.now ≡ 4096 }
+    requires number { number ≤ 2 ^ 54 - 4 }
+    requires whole { whole ≤ 4 }
+    ensures { take whole result ≡ leaves whole chunks.now number }
 {
-    if whole >= 4 {
-        return chunks8(buffer, number);
+    if whole > 1 {
+        return chunks4(hidden, chunks, number, chunks);
     }
-    let hidden = Hidden::new();
-    let mut values = [[0; 8]; 8];
-    'plain: for k in 0..whole {
-        let chunk = &buffer[1024 * k..1024 * k + 1024];
-        values[k] = flagged_chunk(&hidden, chunk, number + k as u64, 0);
+    let mut values = [[0; 8]; 4];
+    if whole == 1 {
+        values[0] = flagged_chunk(hidden, &chunks[..1024], number, 0);
     }
     values
 }
 
-fn push_front(spine: &mut Spine, values: &[[u32; 8]; 8], whole: usize)
-    requires whole { whole < 8 }
+// The values of the first `whole` of eight chunks.
+fn first_of_eight(hidden: &Hidden, buffer: &[u8; 8192], number: u64, whole: usize) -> [[u32; 8]; 8]
+    requires number { number ≤ 2 ^ 54 - 8 }
+    requires whole { whole ≤ 8 }
+    ensures { take whole result ≡ leaves whole buffer.now number }
+{
+    if WIDTH == 8 && whole > 4 {
+        return chunks8_before(hidden, buffer, number, buffer);
+    }
+    let a = first_of_four(hidden, &buffer[..4096], number, whole.min(4));
+    let b = first_of_four(hidden, &buffer[4096..], number + 4, whole.saturating_sub(4));
+    [a[0], a[1], a[2], a[3], b[0], b[1], b[2], b[3]]
+}
+
+// The values of the chunks that the first `used` bytes of the buffer have, of which the last one may be short.
+fn buffer_values(hidden: &Hidden, buffer: &[u8; 8192], number: u64, used: usize) -> [[u32; 8]; 8]
+    requires number { number ≤ 2 ^ 54 - 8 }
+    requires some { 1 ≤ used }
+    requires used { used ≤ 8192 }
+    ensures { take ((used - 1) / 1024 + 1) result ≡ leaves ((used - 1) / 1024 + 1) (take used buffer.now) number }
+{
+    let whole = used / 1024;
+    let mut values = first_of_eight(hidden, buffer, number, whole);
+    if used % 1024 > 0 {
+        let last = &buffer[1024 * whole..used];
+        values[whole] = flagged_chunk(hidden, last, number + whole as u64, 0);
+    }
+    values
+}
+
+fn push_front(hidden: &Hidden, spine: &mut Spine, values: &[[u32; 8]], whole: usize)
+    requires whole { whole ≤ length values.now }
     requires room { spine.old.count + whole < 2 ^ 54 }
     ensures count { spine.new.count ≡ spine.old.count + whole }
     ensures pushed { (xs : List (List ℕ)) → IsPushed spine.old xs → IsPushed spine.new (xs ++ take whole values.now) }
 {
     'front: for k in 0..whole {
-        spine.push(&values[k]);
+        spine.push_subtree_by(hidden, &values[k], 0);
     }
 }
 
@@ -174,8 +277,8 @@ fn group_values(hidden: &Hidden, bytes: &[u8], number: u64, k: usize) -> [[u32; 
     chunks8_before(hidden, group, number + 8 * k as u64, next)
 }
 
-// Puts the values of the first `groups` groups of eight chunks on a spine of `number` values. The last parent of a
-// group waits for a free lane beside the next group's.
+// Puts the values of the first `groups` groups of eight chunks on a spine of `number` values. Of the tree over a group
+// the second level waits for free lanes beside the next group, and the third beside the one after.
 fn push_groups(spine: &mut Spine, number: u64, bytes: &[u8], groups: usize)
     requires number { number ≡ spine.old.count }
     requires aligned { number % 8 ≡ 0 }
@@ -191,14 +294,22 @@ fn push_groups(spine: &mut Spine, number: u64, bytes: &[u8], groups: usize)
     }
     let hidden = Hidden::new();
     let first = group_values(&hidden, bytes, number, 0);
-    let mut halves = halves8(&hidden, &first, &[first[0], first[1]]).halves;
+    let mut waiting = alone(quarters8(&hidden, &first));
     'groups: for k in 0..groups - 1 {
         let values = group_values(&hidden, bytes, number, k + 1);
-        let tree = halves8(&hidden, &values, &halves);
-        spine.push_subtree(&tree.waited, 3);
-        halves = tree.halves;
+        let joined = join_with(&hidden, &values, &waiting);
+        if k > 0 {
+            spine.push_subtree_by(&hidden, &joined.whole, 3);
+        }
+        waiting = joined.waiting;
     }
-    spine.push_subtree(&parent_value(&halves[0], &halves[1]), 3);
+    let last = join_waiting(&hidden, &waiting);
+    let halves = last.halves;
+    if groups > 1 {
+        spine.push_subtree_by(&hidden, &last.whole, 3);
+    }
+    let whole = hidden.parent(&halves[0], &halves[1], 0);
+    spine.push_subtree_by(&hidden, &whole, 3);
 }
 
 // Takes in bytes after `number` whole chunks: all but the last 1 to 8,192 go on the spine, and these go to the front

@@ -1,9 +1,9 @@
 // Bytes with their hash.
-ghost use Rattle.std.specs.Prelude.{◌≡◌, ℕ, List};
+ghost use Rattle.std.specs.Prelude.{◌≡◌, ℕ, List, take};
 ghost use Rattle.tree_hash.specs.TreeHash.{io};
 ghost use Rattle.blake3_lanes.specs.WideFed.{IsWideFed};
 
-use blake3_lanes::WideHasher;
+use blake3_lanes::{WideHasher, hash};
 use ddc_names::IoHash;
 use std::marker::Model;
 
@@ -11,19 +11,23 @@ use std::marker::Model;
 pub(crate) fn cut_hash(hasher: &WideHasher) -> IoHash
     ensures { (m : List ℕ) → IsWideFed hasher.now m → result.0 ≡ io m }
 {
-    let hash = hasher.finish();
-    let mut cut = [0; 20];
-    cut.copy_from_slice(&hash[..20]);
-    IoHash(cut)
+    cut(&hasher.finish())
+}
+
+// The first 20 bytes of a hash.
+fn cut(hash: &[u8; 32]) -> IoHash
+    ensures { result.0 ≡ take 20 hash.now }
+{
+    let mut front = [0; 20];
+    front.copy_from_slice(&hash[..20]);
+    IoHash(front)
 }
 
 /// The hash that names a blob of these bytes.
 pub fn io_hash_of(bytes: &[u8]) -> IoHash
     ensures { result.0 ≡ io bytes.now }
 {
-    let mut hasher = WideHasher::new();
-    hasher.update(bytes);
-    cut_hash(&hasher)
+    cut(&hash(bytes))
 }
 
 /// Bytes and the hash that names them. A clause sees the bytes; that the hash is theirs is kept by the type.

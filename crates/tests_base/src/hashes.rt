@@ -2,11 +2,11 @@
 
 ghost use Rattle.std.specs.Prelude.{◌<◌};
 
-use blake3_hash::{Hasher, Spine, chunk_value, compress, hash, parent_value};
-use blake3_lanes::{WideHasher, chunks8, parents8};
+use blake3_hash::{Hasher, Parents, Spine, chunk_value, compress, hash, parent_value};
+use blake3_lanes::{WideHasher, chunks8, hash as lanes_hash, parents8};
 use std::alloc::{AllocError, Global};
 use std::test::Fail;
-use tree_hash::plain_hash;
+use tree_hash::{flagged_parent, plain_hash};
 
 /// Lengths, each with the hash of so many bytes in four parts.
 pub const ROWS: [(usize, [u64; 4]); 20] = [
@@ -254,6 +254,7 @@ fn each_way_gives_the_hash_from_outside(rt: HostRuntime) -> Result<(), Fail> {
         let bytes = counted(rt.alloc(), len)?;
         assert_eq!(rt; parts(&hash(bytes.as_slice())), wanted, "{len}");
         assert_eq!(rt; parts(&plain_hash(bytes.as_slice())), wanted, "{len}");
+        assert_eq!(rt; parts(&lanes_hash(bytes.as_slice())), wanted, "{len}");
         assert!(rt; have_in_pieces(bytes.as_slice(), wanted), "{len}");
     }
     Ok(())
@@ -284,6 +285,45 @@ fn spine_joins_chunk_values(rt: HostRuntime) -> Result<(), Fail> {
     joined.push_subtree(&pair, 1);
     joined.push(&chunk_value(&counted_chunk(2), 2));
     assert_eq!(rt; joined.finish(&counted_chunk(3)[..1]), found);
+    Ok(())
+}
+
+// Parents by the plain program.
+struct Plainly;
+
+impl Parents for Plainly {
+    fn parent(&self, left: &[u32; 8], right: &[u32; 8], root: u32) -> [u32; 8] {
+        flagged_parent(left, right, root)
+    }
+}
+
+#[test]
+fn spine_joins_in_a_way_of_the_callers(rt: HostRuntime) {
+    let mut spine = Spine::new();
+    let pair = parent_value(
+        &chunk_value(&counted_chunk(0), 0),
+        &chunk_value(&counted_chunk(1), 1),
+    );
+    spine.push_subtree_by(&Plainly, &pair, 1);
+    spine.push_subtree_by(&Plainly, &chunk_value(&counted_chunk(2), 2), 0);
+    let found = spine.finish_by(&Plainly, &chunk_value(&counted_chunk(3)[..1], 3));
+    assert_eq!(rt; parts(&found)[0], 0x7124b49501012f81);
+}
+
+// Each number of chunks that are hashed at the end, and one more, the last one whole or short.
+#[test]
+fn few_chunks_have_the_hash_of_the_definition(rt: HostRuntime) -> Result<(), Fail> {
+    for chunks in 1..18usize {
+        for len in [1024 * chunks - 1, 1024 * chunks, 1024 * chunks + 1] {
+            let bytes = counted(rt.alloc(), len)?;
+            let wanted = plain_hash(bytes.as_slice());
+            assert!(rt;
+                wide_hash_of_pieces(bytes.as_slice(), 20_000) == wanted,
+                "{len}"
+            );
+            assert!(rt; lanes_hash(bytes.as_slice()) == wanted, "{len}");
+        }
+    }
     Ok(())
 }
 

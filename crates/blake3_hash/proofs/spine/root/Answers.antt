@@ -1,61 +1,10 @@
-use Rattle.std.proofs.Common.{◌≡◌, ℕ, ◌+◌, ◌*◌, ◌/◌, ◌%◌, ◌^◌, ◌≤◌, List, length, ap, sym, ◌∙◌, arith}
-use Rattle.tree_hash.specs.TreeHash.{chunk_value, parent_value}
-use Rattle.blake3_hash.specs.Spine.{pairs_at, spine_root}
-use Rattle.blake3_hash.proofs.Levels.{Holds_length, Holds_level, JoinsTo, JoinsTo_done, JoinsTo_even, JoinsTo_first, JoinsTo_odd, halved_le, length-pairs_at, level_below, pairs_at_first, spine_root_none}
+use Rattle.std.proofs.Common.{arith, ◌∙◌, sym}
+use Rattle.blake3_hash.proofs.Levels.{Holds_length, spine_root_none}
 use Rattle.blake3_hash.proofs.spine.root.Goals as goal
-use Rattle.blake3_hash.proofs.spine.root.Goals.{then-above-eq1, else-above-eq1}
 
 pub returns-then-count-eq0 : goal.returns-then-count-eq0
 returns-then-count-eq0 c = λ xs h.
     c.flagged_chunk.ensures ∙ sym (spine_root_none xs c.args.rest.now (omega (arith, Holds_length _ _ xs h)))
 
-pub joining-init : goal.joining-init
-joining-init c = record {
-  within = omega arith;
-  some = omega arith;
-  bound = omega arith;
-  joins = λ xs h.
-      let len = Holds_length c.args.levels.now c.args.count xs h in
-      let e : c.flagged_chunk-value.result ≡ chunk_value c.args.rest.now (length xs) 0 = rw len c.flagged_chunk-value.ensures in
-      let P : List ℕ → Type 0 = λ v. JoinsTo 0 xs v (spine_root xs c.args.rest.now) in
-      (ap length (pairs_at_first xs) ∙ len, rw e (JoinsTo_first xs c.args.rest.now (omega (arith, len))));
-}
-
-pub joining-preserved : goal.joining-preserved
-joining-preserved c =
-    let r : ℕ = c.joining.above in
-    let k : ℕ = c.joining.level in
-    let bound : r / 2 * 2 ^ (k + 1) ≤ c.args.count = halved_le r k c.args.count c.joining.invariant.bound in
-    let some : 1 ≤ r / 2 = omega arith in
-    record {
-      within = level_below (r / 2) (k + 1) c.args.count some bound (omega arith);
-      some = some;
-      bound = bound;
-      joins = λ xs h.
-          let i = c.joining.invariant.joins xs h in
-          let len : length (pairs_at k xs) ≡ r = i.0 in (
-            length-pairs_at k r xs len,
-            elim c.if-above-eq1.branch [
-              | then-above-eq1 w ↦
-                  let odd : length (pairs_at k xs) % 2 ≡ 1 = rw len (omega arith) in
-                  JoinsTo_odd k xs c.joining.value _ (spine_root xs c.args.rest.now) i.1 (omega arith) odd
-                  (w.value-is ∙ w.flagged_parent-value.ensures
-                  ∙ ap (λ (x : List ℕ). parent_value x c.joining.value 0)
-                  (Holds_level c.args.levels.now c.args.count xs k h c.joining.invariant.within odd))
-              | else-above-eq1 w ↦
-                  let even : length (pairs_at k xs) % 2 ≡ 0 = rw len (omega arith) in
-                  rw w.value-is (JoinsTo_even k xs c.joining.value (spine_root xs c.args.rest.now) i.1 (omega arith) even)
-            ],
-          );
-    }
-
 pub returns : goal.returns
-returns c = λ xs h.
-    let k : ℕ = c.joining.level in
-    let i = c.joining.invariant.joins xs h in
-    let one : length (pairs_at k xs) ≡ 1 = omega (arith, i.0) in
-    let odd : length (pairs_at k xs) % 2 ≡ 1 = omega arith in
-    c.flagged_parent.ensures
-    ∙ ap (λ (x : List ℕ). parent_value x c.joining.value 8)
-    (Holds_level c.args.levels.now c.args.count xs k h c.joining.invariant.within odd)
-    ∙ JoinsTo_done k xs c.joining.value (spine_root xs c.args.rest.now) i.1 one
+returns c = λ xs h. c.root_by.ensures xs c.args.rest.now h c.flagged_chunk-2.ensures

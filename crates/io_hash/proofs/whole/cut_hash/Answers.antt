@@ -4,4 +4,4 @@ use Rattle.io_hash.proofs.whole.cut_hash.Goals as goal
 
 pub returns : goal.returns
 unfolding io
-returns c m fed = c.copy_from_slice.ensures.after ∙ ap (λ r. take 20 r) (c.finish-hash.ensures m fed)
+returns c m fed = c.cut.ensures ∙ ap (λ r. take 20 r) (c.finish.ensures m fed)

@@ -3,10 +3,10 @@ use Rattle.std.proofs.lemmas.Nat.{div-add-mod'}
 use Rattle.tree_hash.specs.TreeHash.{parent_value}
 use Rattle.blake3_hash.specs.Spine.{Holds, Levels, pairs_at}
 use Rattle.blake3_hash.proofs.Levels.{Carries_next, Carries_subtree, Holds_length, Holds_level, Holds_push, halved, length-pairs_at, length-pairs_at_exact, level_below}
-use Rattle.blake3_hash.proofs.spine.Spine.push_subtree.Goals as goal
+use Rattle.blake3_hash.proofs.spine.Spine.push_subtree_by.Goals as goal
 
 pub levels-init : goal.levels-init
-levels-init c =
+levels-init g c =
     let count : ℕ = c.self.inside.count in
     let width : ℕ = 2 ^ c.args.height in
     let same : count ≡ c.args.self.now.count = ap (λ (v : Levels). v.count) c.self.view_is in
@@ -23,7 +23,7 @@ levels-init c =
     }
 
 pub levels-preserved : goal.levels-preserved
-levels-preserved c =
+levels-preserved g c =
     let r : ℕ = c.levels.rest in
     let k : ℕ = c.levels.level in
     let n : ℕ = c.self.inside.count + 2 ^ c.args.height in
@@ -37,14 +37,14 @@ levels-preserved c =
           let odd_length : length (pairs_at k xs) % 2 ≡ 1 = rw i.0 odd in (
             length-pairs_at k r xs i.0,
             Carries_next k xs ys c.levels.carry _ i.1 odd_length
-                (c.flagged_parent-carry.ensures
+                (c.parent-carry.ensures
                 ∙ ap (λ (x : List ℕ). parent_value x c.levels.carry 0)
                 (Holds_level c.self.inside.levels c.self.inside.count xs k h c.levels.invariant.within odd_length)),
           );
     }
 
 pub returns-clause-pushed : goal.returns-clause-pushed
-returns-clause-pushed c = λ xs ys pushed long e.
+returns-clause-pushed g c = λ xs ys pushed long e.
     let k : ℕ = c.levels.level in
     let h : Holds c.self.inside.levels c.self.inside.count xs = rw (← c.self.view_is) at pushed in
     let i = c.levels.invariant.carries xs ys h long e in

@@ -1,0 +1,7 @@
+use Rattle.std.proofs.Common.{take, ap, ◌∙◌}
+use Rattle.tree_hash.specs.TreeHash.{io}
+use Rattle.io_hash.proofs.whole.io_hash_of.Goals as goal
+
+pub returns : goal.returns
+unfolding io
+returns c = c.cut.ensures ∙ ap (λ r. take 20 r) c.hash.ensures
