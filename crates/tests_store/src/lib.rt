@@ -1,18 +1,8 @@
-//! The proved tests of `ddc_model`, `ddc_entry`, `ddc_state`, `needs_resolver`, `ddc_opening` and `ddc_book`. A
-//! crate of their own, since a build of tests proves its crate's code again.
+//! The proved tests of `ddc_opening` and `ddc_book`. A crate of their own, since a build of tests proves its crate's code
+//! again.
 #![tactic(auto)]
 
 #[cfg(test)]
-mod blob_map;
-#[cfg(test)]
 mod book;
 #[cfg(test)]
-mod entry;
-#[cfg(test)]
-mod model;
-#[cfg(test)]
-mod needs;
-#[cfg(test)]
 mod opening;
-#[cfg(test)]
-mod state;

@@ -109,6 +109,30 @@ fn cursor_at(alloc: Global, space: Namespace, cursor: Cursor) -> Result<Entry, N
     })
 }
 
+// Lets a reference expire, where it may; and not a second time.
+fn expires(alloc: Global, index: &mut Index, name: RefName) -> bool {
+    match expiry_of(alloc, name) {
+        Ok(expiry) => makes(alloc, index, &expiry) && !index.fits(&expiry),
+        Err(_) => false,
+    }
+}
+
+// Puts a reference, where it may.
+fn puts(alloc: Global, index: &mut Index, name: RefName) -> bool {
+    match put_at(alloc, name) {
+        Ok(put) => index.has_room_for_events(&put) && makes(alloc, index, &put),
+        Err(_) => false,
+    }
+}
+
+// Sweeps the blob, where it may; and not a second time.
+fn is_swept(alloc: Global, index: &mut Index, space: Namespace) -> bool {
+    match sweep_of(alloc, space) {
+        Ok(sweep) => makes(alloc, index, &sweep) && !index.fits(&sweep),
+        Err(_) => false,
+    }
+}
+
 #[test]
 fn what_expires_and_is_swept_goes(rt: HostRuntime) -> Result<(), Fail> {
     let space = Namespace::parse("game")?;
@@ -116,19 +140,15 @@ fn what_expires_and_is_swept_goes(rt: HostRuntime) -> Result<(), Fail> {
         bucket: Bucket::parse("maps")?,
         key: RefKey([7; 20]),
     };
+    let name = RefName { space, spot };
     let Some((mut index, _)) = index_of(rt.alloc(), space) else {
         panic!(rt; "no index");
     };
-    let name = RefName { space, spot };
-    let put = put_at(rt.alloc(), name)?;
-    let expiry = expiry_of(rt.alloc(), name)?;
-    let sweep = sweep_of(rt.alloc(), space)?;
-    assert!(rt; !index.fits(&expiry));
+    assert!(rt; !expires(rt.alloc(), &mut index, name));
     assert!(rt; index.log(&space).is_none());
-    assert!(rt; index.has_room_for_events(&put) && makes(rt.alloc(), &mut index, &put));
-    assert!(rt; makes(rt.alloc(), &mut index, &expiry));
-    assert!(rt; makes(rt.alloc(), &mut index, &sweep));
-    assert!(rt; !index.fits(&sweep));
+    assert!(rt; puts(rt.alloc(), &mut index, name));
+    assert!(rt; expires(rt.alloc(), &mut index, name));
+    assert!(rt; is_swept(rt.alloc(), &mut index, space));
     assert_eq!(rt; index.log(&space).map(|log| log.last()), Some(2));
     assert_eq!(rt; (index.refs().len(), index.blob_count()), (0, 0));
     assert_eq!(rt; (index.free_run(67_108_864), index.hour()), (Some(0), 200));

@@ -1,0 +1,14 @@
+//! The proved tests of `ddc_model`, `ddc_entry`, `ddc_state` and `needs_resolver`. A crate of their own, since a build of
+//! tests proves its crate's code again.
+#![tactic(auto)]
+
+#[cfg(test)]
+mod blob_map;
+#[cfg(test)]
+mod entry;
+#[cfg(test)]
+mod model;
+#[cfg(test)]
+mod needs;
+#[cfg(test)]
+mod state;
