@@ -43,7 +43,7 @@ consumes-both (Some x) (Some y) None p q first second = absurd second
 consumes-both (Some x) (Some y) (Some z) p q first second = first ∙ ap (λ l. p ++ l) second ∙ sym (append_assoc p q z)
 
 -- no whole request in the bytes held with what was taken, and then a piece
-pub takes-piece : (a b c : Option (List ℕ)) (held front piece : List ℕ) → Consumes a b front → Consumes b c piece → length piece ≤ 65536 → HasNoRequestText (held ++ front) → TakesPieces held a c
+pub takes-piece : (a b c : Option (List ℕ)) (held front piece : List ℕ) → Consumes a b front → Consumes b c piece → length piece ≤ 16384 → HasNoRequestText (held ++ front) → TakesPieces held a c
 takes-piece a b c held front piece first second small none = (front, piece, consumes-both a b c front piece first second, small, none)
 
 -- and then a read that gave nothing
@@ -53,7 +53,7 @@ takes-nothing a b c held front first kept none =
     (front, [], subst P (sym (append-nil front)) (consumes-kept a b c front first kept), omega arith, none)
 
 -- what is held is what was held and what was taken
-pub holds-piece : (a b c : Option (List ℕ)) (held front piece old now : List ℕ) → old ≡ held ++ front → now ≡ old ++ piece → Consumes a b front → Consumes b c piece → length piece ≤ 65536
+pub holds-piece : (a b c : Option (List ℕ)) (held front piece old now : List ℕ) → old ≡ held ++ front → now ≡ old ++ piece → Consumes a b front → Consumes b c piece → length piece ≤ 16384
     → HasNoHead old → HoldsPieces held now a c
 holds-piece a b c held front piece old now is grown first second small none =
     let P : List ℕ → Type 0 = HasNoRequestText in

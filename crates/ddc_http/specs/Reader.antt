@@ -52,7 +52,7 @@ LosesPart before left = (part : List ℕ) × Consumes before left part × HasNoR
 -- what was taken from a source while these bytes were held: all of it but the last piece, after them, holds no whole
 -- request
 abbrev pub TakesPieces : List ℕ → Option (List ℕ) → Option (List ℕ) → Type 0
-TakesPieces held before after = (front : List ℕ) × (last : List ℕ) × Consumes before after (front ++ last) × (length last ≤ 65536) × HasNoRequestText (held ++ front)
+TakesPieces held before after = (front : List ℕ) × (last : List ℕ) × Consumes before after (front ++ last) × (length last ≤ 16384) × HasNoRequestText (held ++ front)
 
 -- what a call answered, by what stands ahead before and after it, and the places
 abbrev pub ReadsNext : Ahead → Ahead → ℕ → ℕ → Result (Option Request) HttpFault → Type 0

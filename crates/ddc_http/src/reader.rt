@@ -19,7 +19,7 @@ use std::alloc::Global;
 /// The most bytes of a head that one call takes from the source.
 const HEAD_PIECE: usize = 8_192;
 /// The most bytes of a body that one call takes from the source.
-const BODY_PIECE: usize = 65_536;
+const BODY_PIECE: usize = 16_384;
 
 // Holds more of the source: up to a line feed, with which a head can end, or to the most bytes of a head. False comes
 // at the end of the source.

@@ -60,7 +60,7 @@ FillsAs old new (Err other) = ⊥
 -- the same where all that was taken is held now
 abbrev pub HoldsPieces : List ℕ → List ℕ → Option (List ℕ) → Option (List ℕ) → Type 0
 HoldsPieces held now before after =
-    (front : List ℕ) × (last : List ℕ) × (now ≡ held ++ (front ++ last)) × Consumes before after (front ++ last) × (length last ≤ 65536) × HasNoRequestText (held ++ front)
+    (front : List ℕ) × (last : List ℕ) × (now ≡ held ++ (front ++ last)) × Consumes before after (front ++ last) × (length last ≤ 16384) × HasNoRequestText (held ++ front)
 
 -- what the filling takes, by its answer
 abbrev pub FillsBy : Ahead → Ahead → Result Bool HttpFault → Type 0

@@ -88,7 +88,7 @@ pieces-preserved g c =
     let bare = i.bare (omega arith) in
     let P : List ℕ → Type 0 = λ b. Consumes before (prepend_known c.drop_front.new.held.items after) (take c.args.len held ++ b) in
     let (taken, took, is) = i.took in
-    let small : n ≤ 65536 = omega (arith, c.take-in-pieces.auto.into, length-take-le c.min-most.result c.pieces.piece (omega arith)) in
+    let small : n ≤ 16384 = omega (arith, c.take-in-pieces.auto.into, length-take-le c.min-most.result c.pieces.piece (omega arith)) in
     record {
       taken = subst P (sym fed) (taken-more before (g.S.Source.left c.pieces.source) after c.drop_front.new.held.items (take c.args.len held) c.pieces.intake.bytes piece bare i.taken c.in-Ok-take.ensures.bytes.0);
       limit = ap (λ p. p.limit) c.in-Ok-take-2.ensures.taken ∙ i.limit;
@@ -146,7 +146,7 @@ returns-in-Err-NoMemory-take-clause-pieces g c =
     let n = c.in-Ok-take.count in
     let piece = take n c.take-in-pieces.new.into in
     let fits = c.in-Ok-take.ensures.bound in
-    let small : n ≤ 65536 = omega (arith, c.take-in-pieces.auto.into, length-take-le c.min-most.result c.pieces.piece (omega arith)) in
+    let small : n ≤ 16384 = omega (arith, c.take-in-pieces.auto.into, length-take-le c.min-most.result c.pieces.piece (omega arith)) in
     let (taken, took, is) = i.took in
     inr (
     takes-piece (g.S.Source.left c.args.source.now) (g.S.Source.left c.pieces.source) (g.S.Source.left c.take-in-pieces.new.self) held taken piece took c.in-Ok-take.ensures.bytes.0
