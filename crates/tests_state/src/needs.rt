@@ -9,7 +9,7 @@ use std::alloc::Global;
 use std::test::Fail;
 
 #[derive(Clone, Copy)]
-enum Node {
+pub(crate) enum Node {
     Object(u64),
     Binary(u64),
 }
@@ -30,7 +30,7 @@ enum Deed {
 }
 
 // Hashes in the order of their numbers.
-fn hash_of(number: u64) -> IoHash {
+pub(crate) fn hash_of(number: u64) -> IoHash {
     let mut bytes = [0; 20];
     bytes[..8].copy_from_slice(&number.to_be_bytes());
     IoHash(bytes)
@@ -98,7 +98,7 @@ fn put_entry(alloc: Global, name: RefName, root: u64) -> Result<Entry, NoMemory>
     })
 }
 
-fn space_entry(space: Namespace) -> Entry {
+pub(crate) fn space_entry(space: Namespace) -> Entry {
     Entry::Space {
         space,
         ttl: 24,
@@ -107,7 +107,7 @@ fn space_entry(space: Namespace) -> Entry {
 }
 
 // Whether the entry fits; then its change is made.
-fn applies(alloc: Global, index: &mut Index, entry: &Entry) -> Result<bool, NoMemory> {
+pub(crate) fn applies(alloc: Global, index: &mut Index, entry: &Entry) -> Result<bool, NoMemory> {
     if !index.fits(entry) {
         return Ok(false);
     }
@@ -115,7 +115,7 @@ fn applies(alloc: Global, index: &mut Index, entry: &Entry) -> Result<bool, NoMe
     Ok(true)
 }
 
-fn are(hashes: &[IoHash], numbers: &[u64]) -> bool {
+pub(crate) fn are(hashes: &[IoHash], numbers: &[u64]) -> bool {
     hashes.len() == numbers.len()
         && numbers
             .iter()
@@ -123,7 +123,7 @@ fn are(hashes: &[IoHash], numbers: &[u64]) -> bool {
             .all(|(place, number)| hashes[place] == hash_of(*number))
 }
 
-fn stores(
+pub(crate) fn stores(
     alloc: Global,
     index: &mut Index,
     space: &str,
@@ -140,7 +140,7 @@ fn stores(
     Ok(applies(alloc, index, &entry)?)
 }
 
-fn puts(
+pub(crate) fn puts(
     alloc: Global,
     index: &mut Index,
     space: &str,
