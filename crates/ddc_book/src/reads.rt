@@ -1,6 +1,6 @@
 //! The commands that read a store.
 
-ghost use Rattle.std.specs.Prelude.{◌≡◌, ◌⊎◌, ◌≤◌, ◌^◌, [], ℕ, List, Some, Err, IfErr, IfOk, IfSome, OnOk, length, option_map};
+ghost use Rattle.std.specs.Prelude.{◌≡◌, ◌⊎◌, ◌≤◌, ◌^◌, [], ℕ, List, None, Some, Err, IfErr, IfOk, IfSome, OnOk, length, option_map};
 ghost use Rattle.std.specs.List.Sorted.{IsStrictlySortedBy};
 ghost use Rattle.ddc_names.specs.Causes.{Rose};
 ghost use Rattle.ddc_names.specs.Orders.{io_hash_cmp};
@@ -10,7 +10,7 @@ ghost use Rattle.blob_store.specs.Bytes.{bytes_from, first_byte, LieIn};
 ghost use Rattle.ddc_model.specs.State.{blob_at};
 ghost use Rattle.ddc_model.specs.Extents.{IsPlaced};
 ghost use Rattle.ddc_model.specs.Commands.{MayRead};
-ghost use Rattle.ddc_model.specs.History.{unless_broken};
+ghost use Rattle.ddc_model.specs.History.{broken_by, unless_broken};
 ghost use Rattle.ddc_model.specs.Reads.{length_at, peek, undamaged, AreAbsent, ServesAs, VerifiesAs};
 ghost use Rattle.ddc_opening.specs.Loading.{AsBefore};
 ghost use Rattle.ddc_book.specs.Calls.{opened_bytes, BreaksReading, GoesOn, IsExist, Only, ReaderGives, Stays};
@@ -116,7 +116,7 @@ impl<D: Disk> Book<D> {
         space: &Namespace,
         hashes: &[IoHash],
     ) -> Result<Rows<IoHash>, StoreFault>
-        ensures { (result ≡ Err StoreFault.NoMemory) ⊎ IsExist self.now space.now hashes.now result }
+        ensures { ((broken_by self.now.steps ≡ None) × (result ≡ Err StoreFault.NoMemory)) ⊎ IsExist self.now space.now hashes.now result }
     {
         if let Some(faults) = self.broken() {
             return Err(StoreFault::Broken { faults });

@@ -229,7 +229,7 @@ impl<D: Disk, K: Opening> Tied<D, K> {
         space: &Namespace,
         hashes: &[IoHash],
     ) -> Result<Rows<IoHash>, StoreFault>
-        ensures { (result ≡ Err StoreFault.NoMemory) ⊎ IsExist self.now space.now hashes.now result }
+        ensures { ((broken_by self.now.steps ≡ None) × (result ≡ Err StoreFault.NoMemory)) ⊎ IsExist self.now space.now hashes.now result }
     {
         self.book.exist(alloc, space, hashes)
     }

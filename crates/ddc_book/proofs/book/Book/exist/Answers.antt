@@ -1,4 +1,4 @@
-use Rattle.std.proofs.Common.{sym, ◌∙◌, subst, inr}
+use Rattle.std.proofs.Common.{sym, ◌∙◌, subst, inl, inr, refl}
 use Rattle.ddc_model.specs.Reads.{AreAbsent}
 use Rattle.ddc_book.specs.View.{BookView}
 use Rattle.ddc_book.proofs.AbsentList.{broken_exist, unknown_exist, known_exist}
@@ -14,3 +14,6 @@ pub returns-in-Ok : goal.returns-in-Ok
 returns-in-Ok g c =
     let are = subst (λ (b : BookView g.row.D.Denot). AreAbsent b.cache.index c.args.space.now c.args.hashes.now c.in-Ok.list) c.self.view_is c.in-Ok.ensures in
     inr (known_exist c.args.self.now c.args.space.now c.args.hashes.now c.in_default.ensures.count (sym c.has_space.ensures ∙ c.if-not-has_space.false) c.in-Ok.list are)
+
+pub returns-in-Err : goal.returns-in-Err
+returns-in-Err g c = inl (sym c.in_default.ensures.count, refl)
