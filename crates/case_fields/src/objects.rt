@@ -1,6 +1,8 @@
 //! Objects, their numbers, and the object that lists hashes.
 
-use cb_fields::{CbFault, Link, LinkKind, check_object, links_of, read_varuint, write_needs};
+use cb_fields::{
+    CbFault, Link, LinkKind, check_object, links_of, read_object, read_varuint, write_needs,
+};
 use ddc_names::{IoHash, NoMemory};
 use std::alloc::Global;
 
@@ -45,24 +47,28 @@ fn digit(value: u8) -> char {
     char::from_digit(value as u32 % 16, 16).unwrap_or('0')
 }
 
-// `object` and the links of an object, or `fault` and its place.
+// `object` and the links of an object, or `fault` and its place; `differs` where the three calls say different things.
 pub fn object_line(alloc: Global, digits: &str) -> Result<String, NoMemory> {
     let bytes = bytes_of(alloc, digits)?;
-    match check_object(alloc, &bytes) {
-        Ok(()) => linked(alloc, "object", &bytes),
-        Err(CbFault::NotObject { at }) => linked(
-            alloc,
-            format!(in alloc; "fault {at}")?.as_str(),
-            &bytes,
-        ),
+    let checked = check_object(alloc, &bytes);
+    let listed = links_of(alloc, &bytes)?;
+    match read_object(alloc, &bytes) {
+        Ok(links) if checked == Ok(()) && listed.as_slice() == links.as_slice() => {
+            linked(alloc, links.as_slice())
+        }
+        Err(CbFault::NotObject { at })
+            if checked == Err(CbFault::NotObject { at }) && listed.len() == 0 => {
+            Ok(format!(in alloc; "fault {at}")?)
+        }
         Err(CbFault::NoMemory) => Err(NoMemory),
+        _ => Ok(String::from_str(alloc, "differs")?),
     }
 }
 
-// A word and the links of some bytes.
-fn linked(alloc: Global, word: &str, bytes: &[u8]) -> Result<String, NoMemory> {
-    let mut text = String::from_str(alloc, word)?;
-    for link in links_of(alloc, bytes)?.as_slice() {
+// `object` and these links.
+fn linked(alloc: Global, links: &[Link]) -> Result<String, NoMemory> {
+    let mut text = String::from_str(alloc, "object")?;
+    for link in links {
         push_link(&mut text, link)?;
     }
     Ok(text)

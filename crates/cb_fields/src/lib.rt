@@ -14,7 +14,7 @@ mod needs;
 mod shape;
 mod varuint;
 
-pub use check::{CbFault, check_object, links_of};
+pub use check::{CbFault, check_object, links_of, read_object};
 pub use laws::{
     fault_is_no_object, fault_lies_within, needs_is_object, needs_tells_hashes, object_or_fault,
     one_fault, one_object,

@@ -58,8 +58,7 @@ impl Collection {
             LinkKind::Binary => {}
             LinkKind::Object => {
                 let space = self.space();
-                let counted = index.count_read();
-                let links = index.links(&space, &node.hash, counted);
+                let (_, links) = index.links(&space, &node.hash);
                 self.meet_all(links);
             }
         }

@@ -2,9 +2,9 @@
 
 ghost use Rattle.std.specs.Prelude.{◌≡◌, IfOk};
 ghost use Rattle.ddc_model.specs.Content.{IsContent};
-ghost use Rattle.ddc_state.specs.Views.{TellsObject};
+ghost use Rattle.ddc_state.specs.Views.{ChecksObject};
 
-use cb_fields::{CbFault, Link, check_object, links_of};
+use cb_fields::{CbFault, Link, read_object};
 use ddc_names::{NoMemory, Rows};
 use io_hash::Whole;
 use std::alloc::Global;
@@ -33,7 +33,7 @@ impl Model for Checked {
 }
 
 impl Checked {
-    /// Reads the bytes of a blob.
+    /// Reads the bytes of a blob, once.
     ///
     /// # Errors
     ///
@@ -42,11 +42,34 @@ impl Checked {
         ensures bytes { IfOk result (λ content. content.bytes ≡ whole) }
         ensures read { IfOk result (λ content. IsContent content) }
     {
-        let is_object = tells_object(alloc, whole.bytes())?;
-        let links = links_of(alloc, whole.bytes())?;
+        match read_object(alloc, whole.bytes()) {
+            Ok(links) => Ok(Checked {
+                whole,
+                is_object: true,
+                links,
+            }),
+            Err(CbFault::NotObject { .. }) => Ok(Checked {
+                whole,
+                is_object: false,
+                links: Rows::new(alloc),
+            }),
+            Err(CbFault::NoMemory) => Err(NoMemory),
+        }
+    }
+
+    /// Reads the bytes of a blob that has to be an object, once.
+    ///
+    /// # Errors
+    ///
+    /// `NotObject` exactly for bytes that are no object, with the place of the first fault. `NoMemory` where there is none
+    /// for the links or for the walk over the bytes. The bytes are then gone.
+    pub fn object(alloc: Global, whole: Whole) -> Result<Checked, CbFault>
+        ensures { ChecksObject whole result }
+    {
+        let links = read_object(alloc, whole.bytes())?;
         Ok(Checked {
             whole,
-            is_object,
+            is_object: true,
             links,
         })
     }
@@ -80,15 +103,5 @@ impl Checked {
         ensures read { IsContent self.now }
     {
         self.is_object
-    }
-}
-
-fn tells_object(alloc: Global, bytes: &[u8]) -> Result<bool, NoMemory>
-    ensures { IfOk result (λ is_object. TellsObject bytes.now is_object) }
-{
-    match check_object(alloc, bytes) {
-        Ok(()) => Ok(true),
-        Err(CbFault::NotObject { .. }) => Ok(false),
-        Err(CbFault::NoMemory) => Err(NoMemory),
     }
 }

@@ -2,6 +2,7 @@
 
 ghost use Rattle.std.specs.Prelude.{◌≡◌, ◌+◌, ◌-◌, ◌^◌, ◌≤◌, true, min, [], OnOk, OnErr, option_copied, option_map};
 ghost use Rattle.std.specs.Option.{unwrap_or};
+ghost use Rattle.std.specs.Borrow.{sem};
 ghost use Rattle.std.specs.FinMap as map;
 ghost use Rattle.ddc_model.specs.State.{blob_at, empty_state};
 ghost use Rattle.ddc_model.specs.Extents.{IsPlaced, free_run, units_of};
@@ -58,12 +59,9 @@ impl Model for Index {
     ghost invariant = { λ index. IsIndexed index.area index.limits index.blobs };
 }
 
-/// One read of links that was counted. It can't be made twice or thrown away, so that no links are given out uncounted.
-pub struct Read {
-    counted: (),
-}
-
 impl Index {
+    ghost use Rattle.ddc_state.specs.IndexLends.{counts_a_read};
+
     /// An index of nothing, at the hour 0, which holds no memory yet.
     pub fn new(alloc: Global, limits: Limits) -> Index
         requires kept { 1 ≤ limits.kept }
@@ -165,25 +163,16 @@ impl Index {
         }
     }
 
-    /// Counts a read of links, up to 2^64 - 1.
-    pub fn count_read(&mut self) -> Read
-        ensures state { self.new.state ≡ self.old.state }
-        ensures reads { self.new.reads ≡ min (self.old.reads + 1) (2 ^ 64 - 1) }
+    /// The links of a blob, in order of occurrence, and none where the blob isn't there. The read is counted, up to
+    /// 2^64 - 1. The index is lent beside them, so that it can be asked while they are read.
+    pub fn links(&mut self, space: &Namespace, hash: &IoHash) -> (&Index, &[Link])
+        ensures* counted { sem 𝓛 (counts_a_read self.entry) }
+        ensures index { result.0.now.state ≡ self.old.state }
+        ensures links { result.1.now ≡ unwrap_or (links_in self.old.state space.now hash.now) [] }
     {
         self.reads = self.reads.saturating_add(1);
-        Read { counted: () }
-    }
-
-    /// The links of a blob, in order of occurrence, and none where the blob isn't there. A read that was counted is
-    /// used up.
-    pub fn links(&self, space: &Namespace, hash: &IoHash, read: Read) -> &[Link]
-        ensures { result.now ≡ unwrap_or (links_in self.now.state space.now hash.now) [] }
-    {
-        let Read { counted: () } = read;
-        match self.found(space, hash) {
-            Some(blob) => blob.links(),
-            None => &[],
-        }
+        let index: &Index = self;
+        (index, index.links_of(space, hash))
     }
 
     /// What is kept of a blob beside its links.
@@ -294,6 +283,15 @@ impl Index {
         ensures { result ≡ self.now.reads }
     {
         self.reads
+    }
+
+    fn links_of(&self, space: &Namespace, hash: &IoHash) -> &[Link]
+        ensures { result.now ≡ unwrap_or (links_in self.now.state space.now hash.now) [] }
+    {
+        match self.found(space, hash) {
+            Some(blob) => blob.links(),
+            None => &[],
+        }
     }
 
     fn found(&self, space: &Namespace, hash: &IoHash) -> Option<&PackedBlob>

@@ -14,4 +14,4 @@ mod spaces;
 
 pub use blob_map::BlobMap;
 pub use checked::Checked;
-pub use index::{Index, Read};
+pub use index::Index;

@@ -95,8 +95,7 @@ impl ClosureWalk {
         ensures read { OnOk result (IsObjectRead (links_in index.old.state space.now) held (met_of self.old) (met_of self.new)) }
         ensures less { OnOk result (most_reads index.old.state space.now (met_of self.new) ≤ most_reads index.old.state space.now (met_of self.old)) }
     {
-        let counted = index.count_read();
-        let links = index.links(space, &held, counted);
+        let (index, links) = index.links(space, &held);
         self.meet_all(index, space, links)?;
         Ok(())
     }

@@ -2,8 +2,8 @@
 
 use cb_fields::{
     CbFault, Link, LinkKind, check_object, fault_is_no_object, fault_lies_within, links_of,
-    needs_is_object, needs_tells_hashes, object_or_fault, one_fault, one_object, read_varuint,
-    write_needs,
+    needs_is_object, needs_tells_hashes, object_or_fault, one_fault, one_object, read_object,
+    read_varuint, write_needs,
 };
 use ddc_names::IoHash;
 use std::test::Fail;
@@ -33,6 +33,21 @@ fn an_object_has_its_links(rt: HostRuntime) -> Result<(), Fail> {
     };
     assert_eq!(rt; links.as_slice(), [link].as_slice());
     Ok(())
+}
+
+#[test]
+fn a_reading_tells_the_links_or_the_fault(rt: HostRuntime) {
+    let object = b"\x02\x15\x0fabcdefghijklmnopqrst";
+    let Ok(links) = read_object(rt.alloc(), object) else {
+        panic!(rt; "no object");
+    };
+    let link = Link {
+        kind: LinkKind::Binary,
+        hash: HASH,
+    };
+    assert_eq!(rt; links.as_slice(), [link].as_slice());
+    let fault = read_object(rt.alloc(), b"\x02\x02\x01\x15").err();
+    assert_eq!(rt; fault, Some(CbFault::NotObject { at: 3 }));
 }
 
 #[test]

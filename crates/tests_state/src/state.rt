@@ -1,6 +1,6 @@
 //! The effect of a few entries. Entries by the hundred, legal ones and others, are compared from outside, through the program.
 
-use cb_fields::{Link, LinkKind};
+use cb_fields::{CbFault, Link, LinkKind};
 use ddc_model::{BlobRow, Cursor, CursorBox, Entry, Extent, Limits, NameBox, SpaceRow, Stored};
 use ddc_names::{Bucket, IoHash, Namespace, NoMemory, RefKey, RefName, RefSpot, Rows};
 use ddc_state::{Checked, Index};
@@ -189,13 +189,12 @@ fn reads_of_links_are_counted(rt: HostRuntime) -> Result<(), Fail> {
     let Some((mut index, _)) = index_of(rt.alloc(), space) else {
         panic!(rt; "no index");
     };
-    let read = index.count_read();
-    let links = index.links(&space, &IoHash([1; 20]), read);
+    let (_, links) = index.links(&space, &IoHash([1; 20]));
     assert_eq!(rt; links.len(), 2);
     assert!(rt; links[0] == link_of(LinkKind::Object));
     assert!(rt; links[1] == link_of(LinkKind::Binary));
-    let read = index.count_read();
-    assert_eq!(rt; index.links(&space, &IoHash([2; 20]), read).len(), 0);
+    let (_, links) = index.links(&space, &IoHash([2; 20]));
+    assert_eq!(rt; links.len(), 0);
     assert_eq!(rt; index.reads(), 2);
     Ok(())
 }
@@ -218,5 +217,19 @@ fn a_check_tells_an_object_and_its_links(rt: HostRuntime) -> Result<(), Fail> {
     assert!(rt; !letter.is_object());
     assert_eq!(rt; letter.whole().bytes(), b"a".as_slice());
     assert!(rt; letter.whole().hash().text() == *b"17762fddd969a453925d65717ac3eea21320b66b");
+    Ok(())
+}
+
+#[test]
+fn what_has_to_be_an_object_is_one_or_has_a_fault(rt: HostRuntime) -> Result<(), Fail> {
+    let bytes = b"\x02\x15\x0eabcdefghijklmnopqrst";
+    let Ok(object) = Checked::object(rt.alloc(), whole_of(rt.alloc(), bytes)?) else {
+        panic!(rt; "no object");
+    };
+    assert!(rt; object.is_object());
+    assert_eq!(rt; object.links().len(), 1);
+    assert_eq!(rt; object.whole().bytes(), bytes.as_slice());
+    let fault = Checked::object(rt.alloc(), whole_of(rt.alloc(), b"\x02\x02\x01\x15")?).err();
+    assert_eq!(rt; fault, Some(CbFault::NotObject { at: 3 }));
     Ok(())
 }

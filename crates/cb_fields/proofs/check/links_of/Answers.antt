@@ -1,30 +1,5 @@
-use Rattle.std.proofs.Common.{◌≡◌, true, List, []}
-use Rattle.std.proofs.lemmas.List.{append-nil}
-use Rattle.cb_fields.specs.declared.links.Link.{Link}
-use Rattle.cb_fields.specs.Shape.{counted}
-use Rattle.cb_fields.specs.Language.{starts_object, HasLinks}
-use Rattle.cb_fields.specs.Fault.{FaultAt}
-use Rattle.cb_fields.specs.inside.FieldWalk.{Cut, Fault, Comes, Carries, StepsOn}
-use Rattle.cb_fields.proofs.Agree.{comes_object, comes_fault, object_links, fault_links}
+use Rattle.cb_fields.proofs.Agree.{object_links}
 use Rattle.cb_fields.proofs.check.links_of.Goals as goal
 
-pub loop-walk-preserved-in-Moved : goal.loop-walk-preserved-in-Moved
-loop-walk-preserved-in-Moved c =
-    let s : StepsOn c.args.bytes.now c.loop-walk.walk c.advance.new.self [] = rw c.in-Moved.is at c.in_ok-advance.ensures in
-    (s.bounds, rw append-nil at (s.carries c.loop-walk.links c.loop-walk.invariant.1))
-
-pub returns-in-Complete : goal.returns-in-Complete
-returns-in-Complete c =
-    let starts : starts_object c.args.bytes.now ≡ true = cc in
-    let comes : (links : List Link) → Carries c.args.bytes.now c.loop-walk.walk links → Comes (counted 1) c.args.bytes.now 0 [] (Cut links) =
-    rw c.in-Complete.is at c.in_ok-advance.ensures in
-    object_links _ _ (comes_object _ _ starts (comes c.loop-walk.links c.loop-walk.invariant.1))
-
-pub returns-in-Broken : goal.returns-in-Broken
-returns-in-Broken c =
-    let starts : starts_object c.args.bytes.now ≡ true = cc in
-    let comes : (links : List Link) → Carries c.args.bytes.now c.loop-walk.walk links → Comes (counted 1) c.args.bytes.now 0 [] (Fault c.advance.new.self.at) =
-    rw c.in-Broken.is at c.in_ok-advance.ensures in
-    let fault : FaultAt c.args.bytes.now c.advance.new.self.at = comes_fault _ _ starts (comes c.loop-walk.links c.loop-walk.invariant.1) in
-    let none : HasLinks c.args.bytes.now [] = fault_links _ _ fault in
-    rw c.new.ensures none
+pub returns-in-Ok : goal.returns-in-Ok
+returns-in-Ok c = object_links c.args.bytes.now c.in-Ok.links c.in-Ok.ensures
